@@ -1,0 +1,9 @@
+pub mod Picks
+pub mod TwoHalves
+pub mod Spelling
+pub mod Sixteen
+pub mod Runs
+pub mod Cuts
+pub mod Ends
+pub mod Telling
+pub mod laws

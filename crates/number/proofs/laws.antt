@@ -1,0 +1,6 @@
+pub mod Octets
+pub mod Address
+pub mod Refusals
+pub mod Runs
+pub mod Kept
+pub mod Prefix

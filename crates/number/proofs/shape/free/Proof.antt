@@ -1,0 +1,14 @@
+-- `number::shape::free` meets its contract. Assumes nothing.
+use borrow.Author.Needs.{needs}
+use Rattle.number.proofs.Telling.{free-zeros-fewer, free-ones-fewer}
+use Rattle.number.proofs.shape.free.Statement.{statement}
+use Rattle.number.proofs.shape.free.Tie as tie
+
+pub free-spec : {M : Type 1} → statement M
+free-spec =
+    tie.close
+    (tie.spec
+    (λ c κs. search needs)  -- zeros-requires
+    (λ c κs. search needs)  -- ones-requires
+    (λ c. search (free-zeros-fewer, needs))  -- returns
+    (λ c. search (free-ones-fewer, needs)))  -- returns-2

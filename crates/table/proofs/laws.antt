@@ -1,0 +1,4 @@
+pub mod Spaces
+pub mod Rows
+pub mod Tables
+pub mod Only

@@ -1,0 +1,165 @@
+-- Rows that are written and read, and numbers that are cleared. Assumes nothing.
+--     get-put, get-other         the row that was written, and any other
+--     rows-put                   the rows before it, and then it
+--     length-withRow             a run keeps its length
+--     kept-outside               the numbers of no other row change
+--     rows-alike, rows-last      runs that agree in their rows' numbers; the last of some rows
+--     length-cleared, cleared-zero, cleared-later
+use mathlib.Core.Path.{_≡_, refl, sym, ap, ap₂, _∙_}
+use mathlib.Core.List.{List, [], _∷_, _++_, append-assoc}
+use mathlib.Core.Logic.{_⊎_, inl, inr}
+use Prim.Native.Nat.{ℕ, zero, suc, min, _+_, _-_, _*_, _≤_, _<_}
+use native.Mathlib.Numerals.{add-one}
+use native.Mathlib.Omega.{arith}
+use lib.ListN.{length, getD, take, drop, replicate, length-append, length-take, length-drop, length-replicate, getD-replicate, List·getD-append, List·getD-eq-default}
+use lib.Dec.{ltb}
+use lib.Seq.{length-take-le, drop-drop, drop-at, getD-take, getD-drop, getD-append-add}
+use borrow.Author.Tests.{lt-ltb, le-ltb}
+use Rattle.number.specs.Tests.{pick}
+use Rattle.number.proofs.Picks.{below}
+use Rattle.table.specs.Sizes.{rowNumbers}
+use Rattle.table.specs.Rows.{Row, nothing, numbers, front, room, rowAt, withRow, rowsOf, cleared}
+use Rattle.table.proofs.Columns.{row-at, front-numbers, front-alike}
+
+-- past the first of two lists
+past : (xs ys : List ℕ) (m i : ℕ) → length xs ≡ m → m ≤ i → getD (xs ++ ys) i 0 ≡ getD ys (i - m) 0
+past xs ys m i e h =
+    let q : i ≡ length xs + (i - m) = omega arith in
+    ap (λ (k : ℕ). getD (xs ++ ys) k 0) q ∙ getD-append-add xs ys (i - m) 0
+
+-- WRITTEN AND READ
+
+module _ (t : List ℕ) (n : ℕ) (r : Row) where
+  -- the numbers before the row and after it
+  abbrev front-part : List ℕ
+  front-part = take (rowNumbers * n) t
+
+  abbrev back-part : List ℕ
+  back-part = drop (rowNumbers * n + rowNumbers) t
+
+  -- where the run has row n, and where it has none
+  with-in : n < room t → withRow t n r ≡ front-part ++ numbers r ++ back-part
+  unfolding withRow
+  with-in h = rw (lt-ltb n (room t) h)
+
+  with-out : room t ≤ n → withRow t n r ≡ t
+  unfolding withRow
+  with-out h = rw (le-ltb n (room t) h)
+
+  -- the numbers before row n
+  length-front-part : n < room t → length front-part ≡ rowNumbers * n
+  length-front-part h = length-take-le (rowNumbers * n) t (omega arith)
+
+  -- a run keeps its length
+  pub length-withRow : length (withRow t n r) ≡ length t
+  length-withRow = go (below n (room t))
+    where
+      go : (n < room t) ⊎ (room t ≤ n) → length (withRow t n r) ≡ length t
+      go (inl h) = rw (with-in h) (simp (length-append, length-take, length-drop) (omega arith))
+      go (inr h) = ap length (with-out h)
+
+  -- the numbers before the row and after it stay
+  pub kept-outside : (i : ℕ) → (i < rowNumbers * n) ⊎ (rowNumbers * n + rowNumbers ≤ i) → getD (withRow t n r) i 0 ≡ getD t i 0
+  kept-outside i o = go (below n (room t)) o
+    where
+      go : (n < room t) ⊎ (room t ≤ n) → (i < rowNumbers * n) ⊎ (rowNumbers * n + rowNumbers ≤ i) → getD (withRow t n r) i 0 ≡ getD t i 0
+      go (inr h) o = ap (λ (l : List ℕ). getD l i 0) (with-out h)
+      go (inl h) (inl b) =
+          let q : i < length front-part = omega (arith, length-front-part h) in
+          ap (λ (l : List ℕ). getD l i 0) (with-in h ∙ append-assoc front-part (numbers r) back-part)
+          ∙ List·getD-append front-part (numbers r ++ back-part) 0 i q
+          ∙ getD-take (rowNumbers * n) t i 0 b
+      go (inl h) (inr a) =
+          let q : length (front-part ++ numbers r) ≡ rowNumbers * n + rowNumbers = length-append front-part (numbers r) ∙ ap (λ (m : ℕ). m + rowNumbers) (length-front-part h) in
+          let d : rowNumbers * n + rowNumbers + (i - (rowNumbers * n + rowNumbers)) ≡ i = omega arith in
+          ap (λ (l : List ℕ). getD l i 0) (with-in h)
+          ∙ past (front-part ++ numbers r) back-part (rowNumbers * n + rowNumbers) i q a
+          ∙ getD-drop (rowNumbers * n + rowNumbers) t (i - (rowNumbers * n + rowNumbers)) 0
+          ∙ ap (λ (k : ℕ). getD t k 0) d
+
+  -- the row that was written is read
+  front-put : n < room t → front (drop (rowNumbers * n) (withRow t n r)) ≡ r
+  front-put h =
+      ap (λ (l : List ℕ). front (drop (rowNumbers * n) l)) (with-in h ∙ append-assoc front-part (numbers r) back-part)
+      ∙ ap (λ (l : List ℕ). front l) (drop-at front-part (numbers r ++ back-part) (rowNumbers * n) (length-front-part h))
+      ∙ front-numbers r back-part
+
+  -- and so by its place
+  pub get-put : n < room t → rowAt (withRow t n r) n ≡ r
+  get-put h =
+      let f : n < room (withRow t n r) = rw length-withRow h in
+      row-at (withRow t n r) n f ∙ front-put h
+
+  -- any other row is as it was
+  pub get-other : (m : ℕ) → (m ≡ n → ⊥) → rowAt (withRow t n r) m ≡ rowAt t m
+  unfolding rowAt
+  get-other m d = rw length-withRow (ap (λ (x : Row). pick (ltb m (room t)) x nothing) (front-alike (drop (rowNumbers * m) (withRow t n r)) (drop (rowNumbers * m) t) same))
+    where
+      side : (i : ℕ) → i < rowNumbers → (m < n) ⊎ (n ≤ m) → (rowNumbers * m + i < rowNumbers * n) ⊎ (rowNumbers * n + rowNumbers ≤ rowNumbers * m + i)
+      side i h (inl b) = inl (omega arith)
+      side i h (inr a) = inr (omega arith)
+
+      same : (i : ℕ) → i < rowNumbers → getD (drop (rowNumbers * m) (withRow t n r)) i 0 ≡ getD (drop (rowNumbers * m) t) i 0
+      same i h = getD-drop (rowNumbers * m) (withRow t n r) i 0 ∙ kept-outside (rowNumbers * m + i) (side i h (below m n)) ∙ sym (getD-drop (rowNumbers * m) t i 0)
+
+-- runs that agree in the numbers of n rows have the same n rows
+pub rows-alike : (n : ℕ) (a b : List ℕ) → ((i : ℕ) → i < rowNumbers * n → getD a i 0 ≡ getD b i 0) → rowsOf n a ≡ rowsOf n b
+unfolding rowsOf
+rows-alike zero a b h = refl
+rows-alike (suc n) a b h =
+    ap₂ (λ (r : Row) (rs : List Row). r ∷ rs)
+    (front-alike a b (λ i p. h i (omega arith)))
+    (rows-alike n (drop rowNumbers a) (drop rowNumbers b) (λ i p. getD-drop rowNumbers a i 0 ∙ h (rowNumbers + i) (omega arith) ∙ sym (getD-drop rowNumbers b i 0)))
+
+-- the last of n + 1 rows
+pub rows-last : (n : ℕ) (t : List ℕ) → rowsOf (suc n) t ≡ rowsOf n t ++ (front (drop (rowNumbers * n) t) ∷ [])
+unfolding rowsOf
+rows-last zero t = refl
+rows-last (suc n) t =
+    let e : rowNumbers + rowNumbers * n ≡ rowNumbers * suc n = omega arith in
+    ap (λ (rs : List Row). front t ∷ rs) (rows-last n (drop rowNumbers t))
+    ∙ ap (λ (l : List ℕ). front t ∷ (rowsOf n (drop rowNumbers t) ++ (front l ∷ []))) (drop-drop (rowNumbers * n) rowNumbers t ∙ ap (λ (k : ℕ). drop k t) e)
+
+-- the rows before the written one, and then it
+pub rows-put : (t : List ℕ) (n : ℕ) (r : Row) → n < room t → rowsOf (n + 1) (withRow t n r) ≡ rowsOf n t ++ (r ∷ [])
+rows-put t n r h =
+    ap (λ (k : ℕ). rowsOf k (withRow t n r)) (add-one n)
+    ∙ rows-last n (withRow t n r)
+    ∙ ap₂ (λ (rs : List Row) (x : Row). rs ++ (x ∷ [])) (rows-alike n (withRow t n r) t (λ i b. kept-outside t n r i (inl b))) (front-put t n r h)
+
+-- CLEARED
+
+module _ (n : ℕ) (t : List ℕ) where
+  -- a run keeps its length
+  pub length-cleared : length (cleared n t) ≡ length t
+  unfolding cleared
+  length-cleared = simp (length-append, length-replicate, length-drop) (omega arith)
+
+  -- past the run's end there is nothing
+  at-end : (k : ℕ) → length t ≤ k → getD (cleared n t) k 0 ≡ 0
+  at-end k h = List·getD-eq-default (cleared n t) 0 (rw length-cleared h)
+
+  -- what was to be cleared is zero, or not there
+  pub cleared-zero : (k : ℕ) → k < n → getD (cleared n t) k 0 ≡ 0
+  unfolding cleared
+  cleared-zero k h = go (below k (length t))
+    where
+      go : (k < length t) ⊎ (length t ≤ k) → getD (cleared n t) k 0 ≡ 0
+      go (inl b) =
+          let zeros : List ℕ = replicate (min n (length t)) 0 in
+          let q : k < min n (length t) = omega arith in
+          let p : k < length zeros = rw length-replicate q in
+          List·getD-append zeros (drop n t) 0 k p ∙ getD-replicate (min n (length t)) k 0 0 q
+      go (inr a) = at-end k a
+
+  -- what comes later stays
+  pub cleared-later : (k : ℕ) → n ≤ k → getD (cleared n t) k 0 ≡ getD t k 0
+  unfolding cleared
+  cleared-later k h = go (below k (length t))
+    where
+      go : (k < length t) ⊎ (length t ≤ k) → getD (cleared n t) k 0 ≡ getD t k 0
+      go (inl b) =
+          let q : min n (length t) ≡ n = omega arith in
+          let d : n + (k - n) ≡ k = omega arith in
+          rw q (past (replicate n 0) (drop n t) n k (length-replicate n 0) h ∙ getD-drop n t (k - n) 0 ∙ ap (λ (i : ℕ). getD t i 0) d)
+      go (inr a) = at-end k a ∙ sym (List·getD-eq-default t 0 a)

@@ -1,0 +1,76 @@
+// A row in a lent run of numbers: "six 64-bit numbers: space, inherit mark (0 or 1), low (upper half, lower half), high (upper half, lower half)".
+// Only this file knows how many numbers a row has and in which order.
+ghost use mathlib.Core.Path.{_≡_};
+ghost use Rattle.table.specs.Rows.{inHalves, seen, rowAt, withRow, cleared};
+use number::halves::Halves;
+
+// The numbers of a row, the rows of a table at most, and the numbers of those.
+pub const ROW: usize = 6;
+
+pub const ROWS: usize = 512;
+
+pub const NUMBERS: usize = 3072;
+
+pub struct Row {
+    pub space: u64,
+    pub inherit: u64,
+    pub low: Halves,
+    pub high: Halves,
+}
+
+// Returns row n of a run, or a row of zeros where the run has no row n.
+pub fn get(run: &[u64], n: usize) -> Row
+    ensures { λ r. ⌜ r ≡ inHalves (rowAt (now (run .entry)) n) ⌝ }
+{
+    if run.len() / ROW <= n {
+        let zero = Halves { upper: 0, lower: 0 };
+        return Row {
+            space: 0,
+            inherit: 0,
+            low: zero,
+            high: zero,
+        };
+    }
+    let at = ROW * n;
+    let low = Halves {
+        upper: run[at + 2],
+        lower: run[at + 3],
+    };
+    let high = Halves {
+        upper: run[at + 4],
+        lower: run[at + 5],
+    };
+    Row {
+        space: run[at],
+        inherit: run[at + 1],
+        low: low,
+        high: high,
+    }
+}
+
+// Writes row n of a run; nothing is done where the run has no row n.
+pub fn put(run: &mut [u64], n: usize, row: Row)
+    ensures { λ _. ⌜ now (run .exit) ≡ withRow (now (run .entry)) n (seen row) ⌝ }
+{
+    if run.len() / ROW <= n {
+        return;
+    }
+    let at = ROW * n;
+    run[at] = row.space;
+    run[at + 1] = row.inherit;
+    run[at + 2] = row.low.upper;
+    run[at + 3] = row.low.lower;
+    run[at + 4] = row.high.upper;
+    run[at + 5] = row.high.lower;
+}
+
+// Sets the first `count` numbers of a run to zero, or all of them where it has fewer; the later ones stay.
+pub fn clear(run: &mut [u64], count: usize)
+    ensures { λ _. ⌜ now (run .exit) ≡ cleared count (now (run .entry)) ⌝ }
+{
+    let mut k: usize = 0;
+    while k < count && k < run.len() {
+        run[k] = 0;
+        k += 1;
+    }
+}
