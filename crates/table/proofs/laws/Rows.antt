@@ -4,21 +4,24 @@
 --     length-withRow             a run keeps its length
 --     kept-outside               the numbers of no other row change
 --     rows-alike, rows-last      runs that agree in their rows' numbers; the last of some rows
+--     withRow-later              the numbers after a table's rows stay
+--     withRows-append, withRows-snoc, length-withRows, withRows-later    the same of rows one after another
 --     length-cleared, cleared-zero, cleared-later
 use mathlib.Core.Path.{_≡_, refl, sym, ap, ap₂, _∙_}
 use mathlib.Core.List.{List, [], _∷_, _++_, append-assoc}
 use mathlib.Core.Logic.{_⊎_, inl, inr}
 use Prim.Native.Nat.{ℕ, zero, suc, min, _+_, _-_, _*_, _≤_, _<_}
+use native.Mathlib.Nat.{add-zero}
 use native.Mathlib.Numerals.{add-one}
 use native.Mathlib.Omega.{arith}
 use lib.ListN.{length, getD, take, drop, replicate, length-append, length-take, length-drop, length-replicate, getD-replicate, List·getD-append, List·getD-eq-default}
 use lib.Dec.{ltb}
-use lib.Seq.{length-take-le, drop-drop, drop-at, getD-take, getD-drop, getD-append-add}
+use lib.Seq.{length-take-le, drop-drop, drop-at, drop-append-add, getD-take, getD-drop, getD-append-add}
 use borrow.Author.Tests.{lt-ltb, le-ltb}
 use Rattle.number.specs.Tests.{pick}
 use Rattle.number.proofs.Picks.{below}
-use Rattle.table.specs.Sizes.{rowNumbers}
-use Rattle.table.specs.Rows.{Row, nothing, numbers, front, room, rowAt, withRow, rowsOf, cleared}
+use Rattle.table.specs.Sizes.{rowNumbers, maxRows, tableNumbers}
+use Rattle.table.specs.Rows.{Row, nothing, numbers, front, room, rowAt, withRow, withRows, rowsOf, cleared}
 use Rattle.table.proofs.Columns.{row-at, front-numbers, front-alike}
 
 -- past the first of two lists
@@ -126,6 +129,55 @@ rows-put t n r h =
     ap (λ (k : ℕ). rowsOf k (withRow t n r)) (add-one n)
     ∙ rows-last n (withRow t n r)
     ∙ ap₂ (λ (rs : List Row) (x : Row). rs ++ (x ∷ [])) (rows-alike n (withRow t n r) t (λ i b. kept-outside t n r i (inl b))) (front-put t n r h)
+
+-- what comes after the row stays
+later : (m : ℕ) (t : List ℕ) (n : ℕ) (r : Row) → rowNumbers * n + rowNumbers ≤ m → drop m (withRow t n r) ≡ drop m t
+later m t n r h = go (below n (room t))
+  where
+    go : (n < room t) ⊎ (room t ≤ n) → drop m (withRow t n r) ≡ drop m t
+    go (inr o) = ap (λ (l : List ℕ). drop m l) (with-out t n r o)
+    go (inl i) =
+        let front : List ℕ = take (rowNumbers * n) t ++ numbers r in
+        let e : length front ≡ rowNumbers * n + rowNumbers = length-append (take (rowNumbers * n) t) (numbers r) ∙ ap (λ (k : ℕ). k + rowNumbers) (length-front-part t n r i) in
+        let k : ℕ = m - (rowNumbers * n + rowNumbers) in
+        let p : m ≡ length front + k = omega arith in
+        let q : rowNumbers * n + rowNumbers + k ≡ m = omega arith in
+        ap (λ (l : List ℕ). drop m l) (with-in t n r i)
+        ∙ ap (λ (j : ℕ). drop j (front ++ drop (rowNumbers * n + rowNumbers) t)) p
+        ∙ drop-append-add front (drop (rowNumbers * n + rowNumbers) t) k
+        ∙ drop-drop k (rowNumbers * n + rowNumbers) t
+        ∙ ap (λ (j : ℕ). drop j t) q
+
+-- the numbers after a table's rows stay
+pub withRow-later : (t : List ℕ) (n : ℕ) (r : Row) → n < maxRows → drop tableNumbers (withRow t n r) ≡ drop tableNumbers t
+withRow-later t n r h = later tableNumbers t n r (omega arith)
+
+-- ROWS ONE AFTER ANOTHER
+
+-- some, and then others
+pub withRows-append : (t : List ℕ) (n : ℕ) (rs qs : List Row) → withRows t n (rs ++ qs) ≡ withRows (withRows t n rs) (n + length rs) qs
+unfolding withRows
+withRows-append t n [] qs = rw add-zero
+withRows-append t n (r ∷ rs) qs =
+    let e : n + 1 + length rs ≡ n + suc (length rs) = omega arith in
+    withRows-append (withRow t n r) (n + 1) rs qs ∙ ap (λ (k : ℕ). withRows (withRows (withRow t n r) (n + 1) rs) k qs) e
+
+-- and then one
+pub withRows-snoc : (t : List ℕ) (n : ℕ) (rs : List Row) (r : Row) → withRows t n (rs ++ (r ∷ [])) ≡ withRow (withRows t n rs) (n + length rs) r
+unfolding withRows
+withRows-snoc t n rs r = withRows-append t n rs (r ∷ [])
+
+-- a run keeps its length
+pub length-withRows : (t : List ℕ) (n : ℕ) (rs : List Row) → length (withRows t n rs) ≡ length t
+unfolding withRows
+length-withRows t n [] = refl
+length-withRows t n (r ∷ rs) = length-withRows (withRow t n r) (n + 1) rs ∙ length-withRow t n r
+
+-- the numbers after a table's rows stay
+pub withRows-later : (t : List ℕ) (n : ℕ) (rs : List Row) → n + length rs ≤ maxRows → drop tableNumbers (withRows t n rs) ≡ drop tableNumbers t
+unfolding withRows
+withRows-later t n [] h = refl
+withRows-later t n (r ∷ rs) h = withRows-later (withRow t n r) (n + 1) rs (omega arith) ∙ withRow-later t n r (omega arith)
 
 -- CLEARED
 

@@ -1,0 +1,63 @@
+// Runs the shared cases of document 01 through the readers: a case after another on standard input, its answer as a line on standard output.
+// tools/cases.py makes both files, crates/cases/stdin and stdout, from the shared cases.
+mod answers;
+mod fields;
+mod parted;
+
+use values::readings;
+
+// What the lent tables hold before a call.
+const RUBBISH: u64 = 0xdeadbeef;
+
+// R: the first n octets of the room are a value, and the first numbers of the table are lent.
+fn read_alone(extension: usize, room: &[u8], n: usize, table: &mut [u64], length: usize) {
+    if room.len() < n {
+        return;
+    }
+    if table.len() < length {
+        return;
+    }
+    if extension == 1 {
+        let reading = readings::read_ip(&room[0..n], &mut table[0..length]);
+        answers::reading(reading, table);
+        return;
+    }
+    let reading = readings::read_as(&room[0..n], &mut table[0..length]);
+    answers::reading(reading, table);
+}
+
+fn reader_case() {
+    let mut table = [RUBBISH; 4096];
+    let mut room = [0u8; 40000];
+    let extension = fields::number();
+    let length = fields::number();
+    let n = fields::octets(&mut room);
+    read_alone(extension, &room, n, &mut table, length);
+}
+
+// F: the octets at fault of one certificate's two values, and the reply of their reading.
+fn part_case() {
+    let mut table = [RUBBISH; 4096];
+    let mut ip = [0u8; 40000];
+    let mut ids = [0u8; 40000];
+    let length = fields::number();
+    let n = fields::octets(&mut ip);
+    let m = fields::octets(&mut ids);
+    parted::run(&ip, n, &ids, m, &mut table, length);
+}
+
+fn main() {
+    let mut letter = [0u8; 1];
+    let mut left: u32 = 100000;
+    while 0 < left {
+        if io::read_full(0, &mut letter) == 0 {
+            return;
+        }
+        if letter[0] == b'R' {
+            reader_case();
+        } else {
+            part_case();
+        }
+        left -= 1;
+    }
+}

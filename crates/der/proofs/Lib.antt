@@ -1,0 +1,7 @@
+pub mod Openings
+pub mod Putting
+pub mod Tails
+pub mod Beginnings
+pub mod Tagged
+pub mod Held
+pub mod laws

@@ -1,0 +1,68 @@
+-- Octets with zeros after them, and the last bits of octets. Theorems. Assumes nothing.
+--     octets-append, octets-drop, octets-left, octets-right      octets in parts
+--     octets-zeros     the octets of a number with as many zeros after it
+--     value-end        the last bits of a number are those of its last octet
+use mathlib.Core.Path.{_≡_, refl, sym, ap, _∙_}
+use mathlib.Core.List.{List, [], _∷_, _++_}
+use Prim.Native.Nat.{ℕ, zero, suc, _+_, _-_, _*_, _%_, _^_, _≤_}
+use native.Mathlib.Omega.{arith}
+use native.Mathlib.Nat.{mul-add-mod-self-right}
+use lib.ListN.{length, getD, drop, replicate, length-append, length-replicate}
+use lib.Pow.{mod-mod-pow}
+use lib.Seq.{getD-drop}
+use Rattle.number.specs.Octets.{Octets, value, octets}
+use Rattle.number.proofs.laws.Octets.{octets-tail, value-octets, value-append}
+
+-- two lists of octets
+pub octets-append : (s t : List ℕ) → Octets s → Octets t → Octets (s ++ t)
+unfolding Octets
+octets-append [] t b d k = d k
+octets-append (x ∷ s) t b d zero = b 0
+octets-append (x ∷ s) t b d (suc k) = octets-append s t (octets-tail x s b) d k
+
+-- without the first ones
+pub octets-drop : (n : ℕ) (s : List ℕ) → Octets s → Octets (drop n s)
+unfolding Octets
+octets-drop n s b k = rw getD-drop (b (n + k))
+
+-- the first of two parts
+pub octets-left : (s t : List ℕ) → Octets (s ++ t) → Octets s
+unfolding Octets
+octets-left [] t b k = omega arith
+octets-left (x ∷ s) t b zero = b zero
+octets-left (x ∷ s) t b (suc k) = octets-left s t (octets-tail x (s ++ t) b) k
+
+-- the second
+pub octets-right : (s t : List ℕ) → Octets (s ++ t) → Octets t
+octets-right [] t b = b
+octets-right (x ∷ s) t b = octets-right s t (octets-tail x (s ++ t) b)
+
+-- zeros are octets
+zeros-octets : (m : ℕ) → Octets (replicate m 0)
+unfolding Octets
+zeros-octets zero k = omega arith
+zeros-octets (suc m) zero = omega arith
+zeros-octets (suc m) (suc k) = zeros-octets m k
+
+-- and spell 0
+value-zeros : (m : ℕ) → value (replicate m 0) ≡ 0
+value-zeros zero = refl
+value-zeros (suc m) = omega (arith, value-zeros m)
+
+-- m octets of zeros after s
+pub octets-zeros : (s : List ℕ) (m : ℕ) → Octets s → octets (length s + m) (value s * 2 ^ (8 * m)) ≡ s ++ replicate m 0
+octets-zeros s m b =
+    let l : length (s ++ replicate m 0) ≡ length s + m = length-append s (replicate m 0) ∙ ap (λ (k : ℕ). length s + k) (length-replicate {A = ℕ} m 0) in
+    let v : value (s ++ replicate m 0) ≡ value s * 2 ^ (8 * m) = value-append s (replicate m 0) ∙ rw (value-zeros m, length-replicate {A = ℕ} m 0) (omega arith) in
+    rw (l, v) at (value-octets (s ++ replicate m 0) (octets-append s (replicate m 0) b (zeros-octets m)))
+
+-- the last bits, in a number of two parts
+low-mod : (k b u l : ℕ) → b ≤ k → (u * 2 ^ k + l) % 2 ^ b ≡ l % 2 ^ b
+low-mod k b u l h =
+    let e : k ≡ (k - b) + b = omega arith in
+    sym (mod-mod-pow (u * 2 ^ k + l) (k - b) b) ∙ rw (← e, mul-add-mod-self-right u (2 ^ k) l) (rw (← e) at (mod-mod-pow l (k - b) b))
+
+-- so the last bits of octets are those of the last one
+pub value-end : (x : ℕ) (s : List ℕ) (u : ℕ) → u ≤ 8 → value (x ∷ s) % 2 ^ u ≡ getD (x ∷ s) (length s) 0 % 2 ^ u
+value-end x [] u h = ap (λ (y : ℕ). y % 2 ^ u) (omega arith)
+value-end x (y ∷ s) u h = low-mod (8 * suc (length s)) u x (value (y ∷ s)) (omega arith) ∙ value-end y s u h

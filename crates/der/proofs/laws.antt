@@ -1,0 +1,5 @@
+pub mod Heads
+pub mod Integers
+pub mod Bits
+pub mod Walks
+pub mod Parts

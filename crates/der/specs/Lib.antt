@@ -1,0 +1,9 @@
+pub mod Tags
+pub mod Head
+pub mod Opening
+pub mod Integer
+pub mod Bits
+pub mod Strings
+pub mod Written
+pub mod Walk
+pub mod Parts

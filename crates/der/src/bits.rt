@@ -1,0 +1,100 @@
+// The contents of a BIT STRING that begins an address (X.690, sections 8.6 and 11.2).
+ghost use mathlib.Core.Path.{_≡_};
+ghost use Prim.Native.Nat.{_-_, _%_, _^_, _<_, _≤_};
+ghost use mathlib.Core.List.{_++_};
+ghost use lib.ListN.{length, getD, take, replicate};
+ghost use lib.Dec.{eqb};
+ghost use Rattle.number.specs.Octets.{value};
+ghost use Rattle.der.specs.Bits.{noBits, bitStringOf, bitsSize};
+use number::address;
+use number::address::Address;
+use number::halves;
+use number::halves::Halves;
+use number::halves::Width;
+
+// The address that the bits begin, zeros after them, and how many bits they are; `read` is false where the contents are against the rules.
+pub struct BitString {
+    pub read: bool,
+    pub count: u32,
+    pub address: Address,
+}
+
+// The first sixteen octets of s, zeros where it has fewer.
+fn sixteen(s: &[u8]) -> [u8; 16]
+    ensures { λ r. ⌜ r ≡ take 16 (now (s .entry)) ++ replicate (16 - length (now (s .entry))) 0 ⌝ }
+{
+    let mut octets = [0u8; 16];
+    let mut k: usize = 0;
+    while k < 16 && k < s.len() {
+        octets[k] = s[k];
+        k += 1;
+    }
+    octets
+}
+
+// Whether the last `unused` bits of the octets are zeros.
+fn ends_in_zeros(octets: &[u8], unused: u8) -> bool
+    requires { ⌜ unused < 8 ⌝ }
+    ensures { λ r. ⌜ r ≡ eqb (value (now (octets .entry)) % 2 ^ unused) 0 ⌝ }
+{
+    if octets.len() == 0 {
+        return true;
+    }
+    let last = octets.len() - 1;
+    octets[last] % (1u8 << unused) == 0
+}
+
+fn none(width: Width) -> BitString
+    ensures { λ r. ⌜ r ≡ noBits width ⌝ }
+{
+    let address = address::from_halves(width, Halves { upper: 0, lower: 0 });
+    BitString {
+        read: false,
+        count: 0,
+        address: address,
+    }
+}
+
+// Returns the address that the contents of a BIT STRING begin: "at most 32 or 128 bits; unused bits 0 to 7, all zero; with no octets the initial octet is 0".
+pub fn read(width: Width, contents: &[u8]) -> BitString
+    ensures { λ r. ⌜ r ≡ bitStringOf width (now (contents .entry)) ⌝ }
+{
+    if contents.len() == 0 {
+        return none(width);
+    }
+    let unused = contents[0];
+    if 7 < unused {
+        return none(width);
+    }
+    let octets = &contents[1..];
+    if 16 < octets.len() {
+        return none(width);
+    }
+    let all = 8 * (octets.len() as u32);
+    if all < unused as u32 {
+        return none(width);
+    }
+    let count = all - unused as u32;
+    if halves::bits(width) < count {
+        return none(width);
+    }
+    if ends_in_zeros(octets, unused) {
+        let address = Address {
+            width: width,
+            octets: sixteen(octets),
+        };
+        return BitString {
+            read: true,
+            count: count,
+            address: address,
+        };
+    }
+    none(width)
+}
+
+// Returns how many octets the contents of a BIT STRING of so many bits take.
+pub fn octets(count: u32) -> usize
+    ensures { λ r. ⌜ r ≡ bitsSize count ⌝ }
+{
+    1 + (count as usize + 7) / 8
+}

@@ -1,0 +1,17 @@
+pub mod AddressReads
+pub mod Answers
+pub mod Choosing
+pub mod FamilyLoop
+pub mod FamilyReads
+pub mod Filling
+pub mod IdReads
+pub mod Joins
+pub mod Listing
+pub mod MemberReads
+pub mod Parting
+pub mod RowReads
+pub mod Settling
+pub mod Spacing
+pub mod ValueReads
+pub mod Wholes
+pub mod laws

@@ -1,0 +1,18 @@
+-- `values::ids::rdi_element` meets its contract. Assumes nothing.
+use borrow.Author.Needs.{needs}
+use mathlib.Core.Logic.{⊎-elim}
+use Rattle.number.proofs.Picks.{picks}
+use Rattle.values.specs.Ids.{idAt}
+use Rattle.values.proofs.RowReads.{no-tag}
+use Rattle.values.proofs.ids.rdi_element.Statement.{statement}
+use Rattle.values.proofs.ids.rdi_element.Tie as tie
+
+pub rdi-element-spec : {M : Type 1} → statement M
+rdi-element-spec =
+    tie.close
+    (tie.spec
+    (λ c. search needs)  -- shared-slice-read-if2
+    (λ c κs. search needs)  -- rdi-number-at-requires
+    (λ c. unfold idAt in search (picks, needs))  -- returns
+    (λ c κs. search needs)  -- rdi-range-at-requires
+    (λ c. ⊎-elim (λ w. let n = w .2 .left in unfold idAt in search (picks, needs)) (λ w. let n = w .left in unfold idAt in search (no-tag, picks, needs)) (c .before .if1 .came)))  -- returns-2

@@ -1,0 +1,12 @@
+pub mod Statements
+pub mod Forms
+pub mod Places
+pub mod Elements
+pub mod Families
+pub mod Choices
+pub mod Blocks
+pub mod Identifiers
+pub mod Octets
+pub mod Groups
+pub mod Exact
+pub mod Accepted

@@ -1,0 +1,17 @@
+pub mod Limits
+pub mod Faults
+pub mod Forms
+pub mod Spaces
+pub mod Addresses
+pub mod Ids
+pub mod Elements
+pub mod Choices
+pub mod Blocks
+pub mod Identifiers
+pub mod Tables
+pub mod Seen
+pub mod Into
+pub mod Encode
+pub mod Readings
+pub mod Inside
+pub mod Parted
