@@ -1,8 +1,9 @@
-// Runs the shared cases of document 01 through the readers: a case after another on standard input, its answer as a line on standard output.
+// Runs the shared cases of document 01 through the readers and the writer: a case after another on standard input, its answer as a line on standard output.
 // tools/cases.py makes both files, crates/cases/stdin and stdout, from the shared cases.
 mod answers;
 mod fields;
 mod parted;
+mod written;
 
 use values::readings;
 
@@ -46,6 +47,15 @@ fn part_case() {
     parted::run(&ip, n, &ids, m, &mut table, length);
 }
 
+fn writer_case() {
+    let mut numbers = [RUBBISH; 4096];
+    let mut out = [0xeeu8; 40000];
+    let kind = fields::long();
+    let n = fields::longs(&mut numbers);
+    let room = fields::number();
+    written::run(kind, &numbers, n, &mut out, room);
+}
+
 fn main() {
     let mut letter = [0u8; 1];
     let mut left: u32 = 100000;
@@ -53,10 +63,11 @@ fn main() {
         if io::read_full(0, &mut letter) == 0 {
             return;
         }
-        if letter[0] == b'R' {
-            reader_case();
-        } else {
-            part_case();
+        let which = letter[0];
+        match which {
+            b'R' => reader_case(),
+            b'W' => writer_case(),
+            _ => part_case(),
         }
         left -= 1;
     }

@@ -1,5 +1,6 @@
 pub mod Openings
 pub mod Putting
+pub mod Pasting
 pub mod Tails
 pub mod Beginnings
 pub mod Tagged

@@ -1,17 +1,19 @@
--- Octets with zeros after them, and the last bits of octets. Theorems. Assumes nothing.
+-- Octets with zeros after them, the first and the last of them, and the last bits of octets. Theorems. Assumes nothing.
 --     octets-append, octets-drop, octets-left, octets-right      octets in parts
+--     octets-parts     the octets of a number in two parts.        first-octets, last-octets      those of an address
 --     octets-zeros     the octets of a number with as many zeros after it
 --     value-end        the last bits of a number are those of its last octet
-use mathlib.Core.Path.{_≡_, refl, sym, ap, _∙_}
-use mathlib.Core.List.{List, [], _∷_, _++_}
-use Prim.Native.Nat.{ℕ, zero, suc, _+_, _-_, _*_, _%_, _^_, _≤_}
+use mathlib.Core.Path.{_≡_, refl, sym, ap, ap₂, _∙_}
+use mathlib.Core.List.{List, [], _∷_, _++_, append-assoc}
+use Prim.Native.Nat.{ℕ, zero, suc, _+_, _-_, _*_, _/_, _%_, _^_, _≤_, _<_}
 use native.Mathlib.Omega.{arith}
-use native.Mathlib.Nat.{mul-add-mod-self-right}
-use lib.ListN.{length, getD, drop, replicate, length-append, length-replicate}
-use lib.Pow.{mod-mod-pow}
-use lib.Seq.{getD-drop}
+use native.Mathlib.Nat.{mul-add-mod-self-right, mod-lt, mod-eq-of-lt, lt-of-lt-of-le, zero-add, suc-add}
+use lib.ListN.{length, getD, take, drop, replicate, length-append, length-replicate}
+use lib.Pow.{pow-pos, pow-mono, shr-shr, field, mod-mod-pow}
+use lib.Seq.{getD-drop, take-at, drop-at}
 use Rattle.number.specs.Octets.{Octets, value, octets}
-use Rattle.number.proofs.laws.Octets.{octets-tail, value-octets, value-append}
+use Rattle.number.specs.Address.{sixteen}
+use Rattle.number.proofs.laws.Octets.{octets-length, octets-tail, value-octets, value-append}
 
 -- two lists of octets
 pub octets-append : (s t : List ℕ) → Octets s → Octets t → Octets (s ++ t)
@@ -55,6 +57,36 @@ octets-zeros s m b =
     let l : length (s ++ replicate m 0) ≡ length s + m = length-append s (replicate m 0) ∙ ap (λ (k : ℕ). length s + k) (length-replicate {A = ℕ} m 0) in
     let v : value (s ++ replicate m 0) ≡ value s * 2 ^ (8 * m) = value-append s (replicate m 0) ∙ rw (value-zeros m, length-replicate {A = ℕ} m 0) (omega arith) in
     rw (l, v) at (value-octets (s ++ replicate m 0) (octets-append s (replicate m 0) b (zeros-octets m)))
+
+-- the octets of a number, in two parts
+pub octets-parts : (j k n : ℕ) → n < 2 ^ (8 * (j + k)) → octets (j + k) n ≡ octets j (n / 2 ^ (8 * k)) ++ octets k (n % 2 ^ (8 * k))
+octets-parts zero k n h = rw (zero-add k, mod-eq-of-lt (rw (zero-add k) at h))
+octets-parts (suc j) k n h =
+    let e : 8 * (j + k) ≡ 8 * j + 8 * k = omega arith in
+    let f : 8 * k + 8 * j ≡ 8 * j + 8 * k = omega arith in
+    rw (suc-add j k)
+    (ap₂ (λ (x : ℕ) (s : List ℕ). x ∷ s)
+    (rw (e, ← f) (sym (shr-shr n (8 * k) (8 * j))))
+    (octets-parts j k (n % 2 ^ (8 * (j + k))) (mod-lt n (pow-pos (8 * (j + k)))) ∙ rw (e, field n (8 * j) (8 * k), mod-mod-pow n (8 * j) (8 * k))))
+
+-- the octets of an address of w bits, in two parts and the zeros after them
+module _ (w j k x : ℕ) (e : w ≡ 8 * (j + k)) where
+  sixteen-parts : x < 2 ^ w → sixteen w x ≡ octets j (x / 2 ^ (8 * k)) ++ (octets k (x % 2 ^ (8 * k)) ++ replicate (16 - (j + k)) 0)
+  unfolding sixteen
+  sixteen-parts b =
+      let f : w / 8 ≡ j + k = omega arith in
+      rw (f, mod-eq-of-lt b, octets-parts j k x (rw e at b), append-assoc)
+
+  -- the first j octets
+  pub first-octets : x < 2 ^ w → take j (sixteen w x) ≡ octets j (x / 2 ^ (8 * k))
+  first-octets b = rw (sixteen-parts b) (take-at (octets j (x / 2 ^ (8 * k))) _ j (octets-length j (x / 2 ^ (8 * k))))
+
+  -- the k octets after them, of a number that has no more
+  pub last-octets : x < 2 ^ (8 * k) → take k (drop j (sixteen w x)) ≡ octets k x
+  last-octets b =
+      let l : x < 2 ^ w = lt-of-lt-of-le b (pow-mono {i = 8 * k} {j = w} (omega arith)) in
+      rw (sixteen-parts l, mod-eq-of-lt b, drop-at (octets j (x / 2 ^ (8 * k))) (octets k x ++ replicate (16 - (j + k)) 0) j (octets-length j (x / 2 ^ (8 * k))))
+      (take-at (octets k x) (replicate (16 - (j + k)) 0) k (octets-length k x))
 
 -- the last bits, in a number of two parts
 low-mod : (k b u l : ℕ) → b ≤ k → (u * 2 ^ k + l) % 2 ^ b ≡ l % 2 ^ b

@@ -3,3 +3,4 @@ pub mod Integers
 pub mod Bits
 pub mod Walks
 pub mod Parts
+pub mod Writing

@@ -1,11 +1,13 @@
 // The contents of a BIT STRING that begins an address (X.690, sections 8.6 and 11.2).
 ghost use mathlib.Core.Path.{_≡_};
-ghost use Prim.Native.Nat.{_-_, _%_, _^_, _<_, _≤_};
+ghost use Prim.Native.Nat.{_+_, _-_, _*_, _/_, _%_, _^_, _<_, _≤_};
 ghost use mathlib.Core.List.{_++_};
 ghost use lib.ListN.{length, getD, take, replicate};
 ghost use lib.Dec.{eqb};
 ghost use Rattle.number.specs.Octets.{value};
 ghost use Rattle.der.specs.Bits.{noBits, bitStringOf, bitsSize};
+ghost use Rattle.der.specs.Written.{bitsWritten};
+use crate::writing;
 use number::address;
 use number::address::Address;
 use number::halves;
@@ -97,4 +99,32 @@ pub fn octets(count: u32) -> usize
     ensures { λ r. ⌜ r ≡ bitsSize count ⌝ }
 {
     1 + (count as usize + 7) / 8
+}
+
+// How many bits are left over in the last octet of so many bits.
+fn unused(count: u32) -> u8
+    requires { ⌜ count ≤ 128 ⌝ }
+    ensures { λ r. ⌜ r ≡ 8 * ((count + 7) / 8) - count ⌝ }
+{
+    ((8 - count % 8) % 8) as u8
+}
+
+// Writes the contents of a BIT STRING of the first `count` bits of an address at a place of `out`; nothing where they do not fit, or there are not so many.
+pub fn put(out: &mut [u8], at: usize, count: u32, address: Address)
+    ensures { λ _. ⌜ now (out .exit) ≡ bitsWritten (now (out .entry)) at count address ⌝ }
+{
+    if 128 < count {
+        return;
+    }
+    let k = (count as usize + 7) / 8;
+    if out.len() < at {
+        return;
+    }
+    if out.len() - at < k + 1 {
+        return;
+    }
+    out[at] = unused(count);
+    let octets = address.octets;
+    let sixteen: &[u8] = &octets;
+    writing::put(out, at + 1, &sixteen[0..k]);
 }

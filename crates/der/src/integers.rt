@@ -1,7 +1,11 @@
 // The contents of an INTEGER from 0 to 4,294,967,295 (X.690, section 8.3).
 ghost use mathlib.Core.Path.{_≡_};
-ghost use Rattle.der.specs.Integer.{padded, integerOf, integerSize};
+ghost use Rattle.der.specs.Integer.{padded, integerOf, integerSize, integerOctets};
+ghost use Rattle.der.specs.Written.{written};
+use crate::writing;
 use number::address;
+use number::halves::Halves;
+use number::halves::Width;
 
 // What an INTEGER is, or why it is none. Today each cause is refusal 4.
 pub enum Integer {
@@ -67,4 +71,20 @@ pub fn octets(x: u32) -> usize
         return 4;
     }
     5
+}
+
+// Writes the contents of an INTEGER at a place of `out`; nothing where they do not fit.
+pub fn put(out: &mut [u8], at: usize, x: u32)
+    ensures { λ _. ⌜ now (out .exit) ≡ written (now (out .entry)) at (integerOctets x) ⌝ }
+{
+    let n = Halves {
+        upper: 0,
+        lower: x as u64,
+    };
+    // An address of 128 bits has the octets of x at its end.
+    let a = address::from_halves(Width::Bits128, n);
+    let all = a.octets;
+    let sixteen: &[u8] = &all;
+    let k = octets(x);
+    writing::put(out, at, &sixteen[16 - k..16]);
 }

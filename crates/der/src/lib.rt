@@ -4,3 +4,4 @@ pub mod heads;
 pub mod integers;
 pub mod strings;
 pub mod tags;
+pub mod writing;

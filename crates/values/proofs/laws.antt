@@ -10,3 +10,4 @@ pub mod Octets
 pub mod Groups
 pub mod Exact
 pub mod Accepted
+pub mod Starred

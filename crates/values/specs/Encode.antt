@@ -1,5 +1,5 @@
 -- The one encoding of a table, in the structure of RFC 3779: IPAddrBlocks, IPAddressFamily, IPAddressOrRange; ASIdentifiers, ASIdOrRange.
-use Prim.Native.Nat.{ℕ, _-_, _/_, _%_}
+use Prim.Native.Nat.{ℕ, _+_, _-_, _/_, _%_}
 use mathlib.Core.List.{List, [], _∷_, _++_}
 use lib.Dec.{eqb}
 use Rattle.number.specs.Tests.{pick}
@@ -7,7 +7,8 @@ use Rattle.number.specs.Halves.{bits}
 use Rattle.table.specs.Spaces.{ipKind, widthOf}
 use Rattle.table.specs.Rows.{Row}
 use Rattle.der.specs.Tags.{INTEGER, BIT-STRING, OCTET-STRING, NULL, SEQUENCE}
-use Rattle.der.specs.Head.{element}
+use lib.ListN.{length}
+use Rattle.der.specs.Head.{element, headOctets}
 use Rattle.der.specs.Bits.{bitsOf}
 use Rattle.der.specs.Integer.{integerOctets}
 use Rattle.der.specs.Walk.{all}
@@ -73,3 +74,23 @@ grouped (r ∷ rs) = pick (eqb (r .inherit) 1) ((r .space, inherit) ∷ grouped 
 -- the value of a table of the kind
 unfoldable pub encode : ℕ → List Row → List ℕ
 encode kind rows = element SEQUENCE (pick (eqb kind ipKind) (all familyOctets (grouped rows)) (all memberOctets (grouped rows)))
+
+-- THE SAME BY THE KIND, for the writer
+
+-- the list of a space in a table of the kind
+abbrev pub spaceFor : ℕ → ℕ → Space
+spaceFor kind a = pick (eqb kind ipKind) (space.Addresses a) (pick (eqb a asNumbers) space.AsNumbers space.RoutingDomains)
+
+unfoldable pub rowOctets : ℕ → Row → List ℕ
+rowOctets kind r = elementOctets (spaceFor kind (r .space)) (r .low, r .high)
+
+-- a family, or a member
+unfoldable pub groupOctets : ℕ → ℕ × Choice → List ℕ
+groupOctets kind f = pick (eqb kind ipKind) (familyOctets f) (memberOctets f)
+
+-- what stands in it before its choice of n octets
+unfoldable pub groupHeads : ℕ → ℕ → ℕ → List ℕ
+groupHeads kind a n =
+    pick (eqb kind ipKind)
+    (headOctets SEQUENCE (length (element OCTET-STRING (spaceOctets a)) + n) ++ element OCTET-STRING (spaceOctets a))
+    (headOctets (pick (eqb a asNumbers) ASNUM RDI) n)

@@ -9,6 +9,7 @@ pub mod Choices
 pub mod Blocks
 pub mod Identifiers
 pub mod Tables
+pub mod Starred
 pub mod Seen
 pub mod Into
 pub mod Encode

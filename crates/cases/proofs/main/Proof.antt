@@ -20,8 +20,9 @@ main-spec =
     (λ c. search needs)  -- slice-aggregate-read-full
     (λ c κs. search needs)  -- read-full-requires
     (λ c. search needs)  -- returns
-    (λ c. search needs)  -- array-read-if2
+    (λ c. search needs)  -- array-read-which
     (λ c κs. search needs)  -- reader-case-requires
+    (λ c κs. search needs)  -- writer-case-requires
     (λ c κs. search needs)  -- part-case-requires
     (λ c. search needs)  -- sub-left
     (λ c. search needs)  -- loop-less

@@ -4,19 +4,22 @@
 --     length-withRow             a run keeps its length
 --     kept-outside               the numbers of no other row change
 --     rows-alike, rows-last      runs that agree in their rows' numbers; the last of some rows
+--     length-rowsOf, rows-split, rows-read    n rows are n, the first k of them and the others, and the last one as it is read
 --     withRow-later              the numbers after a table's rows stay
---     withRows-append, withRows-snoc, length-withRows, withRows-later    the same of rows one after another
+--     withRow-swap               two rows are written in either order
+--     withRows-append, withRows-snoc, length-withRows, withRows-later, withRows-swap    the same of rows one after another
+--     rows-kept                  the rows before those that are written
 --     length-cleared, cleared-zero, cleared-later
 use mathlib.Core.Path.{_≡_, refl, sym, ap, ap₂, _∙_}
 use mathlib.Core.List.{List, [], _∷_, _++_, append-assoc}
 use mathlib.Core.Logic.{_⊎_, inl, inr}
 use Prim.Native.Nat.{ℕ, zero, suc, min, _+_, _-_, _*_, _≤_, _<_}
-use native.Mathlib.Nat.{add-zero}
+use native.Mathlib.Nat.{add-zero, zero-add, suc-add}
 use native.Mathlib.Numerals.{add-one}
 use native.Mathlib.Omega.{arith}
 use lib.ListN.{length, getD, take, drop, replicate, length-append, length-take, length-drop, length-replicate, getD-replicate, List·getD-append, List·getD-eq-default}
 use lib.Dec.{ltb}
-use lib.Seq.{length-take-le, drop-drop, drop-at, drop-append-add, getD-take, getD-drop, getD-append-add}
+use lib.Seq.{ext-getD, length-take-le, drop-drop, drop-at, drop-append-add, getD-take, getD-drop, getD-append-add}
 use borrow.Author.Tests.{lt-ltb, le-ltb}
 use Rattle.number.specs.Tests.{pick}
 use Rattle.number.proofs.Picks.{below}
@@ -80,6 +83,14 @@ module _ (t : List ℕ) (n : ℕ) (r : Row) where
           ∙ getD-drop (rowNumbers * n + rowNumbers) t (i - (rowNumbers * n + rowNumbers)) 0
           ∙ ap (λ (k : ℕ). getD t k 0) d
 
+  -- the numbers of the row are those that were written
+  put-at : (i : ℕ) → n < room t → rowNumbers * n ≤ i → i < rowNumbers * n + rowNumbers → getD (withRow t n r) i 0 ≡ getD (numbers r) (i - rowNumbers * n) 0
+  put-at i h a b =
+      let q : i - rowNumbers * n < length (numbers r) = omega arith in
+      ap (λ (l : List ℕ). getD l i 0) (with-in h ∙ append-assoc front-part (numbers r) back-part)
+      ∙ past front-part (numbers r ++ back-part) (rowNumbers * n) i (length-front-part h) a
+      ∙ List·getD-append (numbers r) back-part 0 (i - rowNumbers * n) q
+
   -- the row that was written is read
   front-put : n < room t → front (drop (rowNumbers * n) (withRow t n r)) ≡ r
   front-put h =
@@ -123,6 +134,26 @@ rows-last (suc n) t =
     ap (λ (rs : List Row). front t ∷ rs) (rows-last n (drop rowNumbers t))
     ∙ ap (λ (l : List ℕ). front t ∷ (rowsOf n (drop rowNumbers t) ++ (front l ∷ []))) (drop-drop (rowNumbers * n) rowNumbers t ∙ ap (λ (k : ℕ). drop k t) e)
 
+-- n rows are n
+pub length-rowsOf : (n : ℕ) (t : List ℕ) → length (rowsOf n t) ≡ n
+unfolding rowsOf
+length-rowsOf zero t = refl
+length-rowsOf (suc n) t = ap suc (length-rowsOf n (drop rowNumbers t))
+
+-- the first k rows, and the others
+pub rows-split : (k m : ℕ) (t : List ℕ) → rowsOf (k + m) t ≡ rowsOf k t ++ rowsOf m (drop (rowNumbers * k) t)
+unfolding rowsOf
+rows-split zero m t = rw zero-add
+rows-split (suc k) m t =
+    let e : rowNumbers + rowNumbers * k ≡ rowNumbers * suc k = omega arith in
+    rw suc-add
+    (ap (λ (rs : List Row). front t ∷ rs) (rows-split k m (drop rowNumbers t))
+    ∙ ap (λ (l : List ℕ). front t ∷ (rowsOf k (drop rowNumbers t) ++ rowsOf m l)) (drop-drop (rowNumbers * k) rowNumbers t ∙ ap (λ (i : ℕ). drop i t) e))
+
+-- one row more, as it is read
+pub rows-read : (k : ℕ) (t : List ℕ) → k < room t → rowsOf (k + 1) t ≡ rowsOf k t ++ (rowAt t k ∷ [])
+rows-read k t h = ap (λ (i : ℕ). rowsOf i t) (add-one k) ∙ rows-last k t ∙ ap (λ (r : Row). rowsOf k t ++ (r ∷ [])) (sym (row-at t k h))
+
 -- the rows before the written one, and then it
 pub rows-put : (t : List ℕ) (n : ℕ) (r : Row) → n < room t → rowsOf (n + 1) (withRow t n r) ≡ rowsOf n t ++ (r ∷ [])
 rows-put t n r h =
@@ -152,6 +183,46 @@ later m t n r h = go (below n (room t))
 pub withRow-later : (t : List ℕ) (n : ℕ) (r : Row) → n < maxRows → drop tableNumbers (withRow t n r) ≡ drop tableNumbers t
 withRow-later t n r h = later tableNumbers t n r (omega arith)
 
+-- TWO ROWS
+
+-- the number at i lies in no column of row n
+abbrev Outside : ℕ → ℕ → Type 0
+Outside n i = (i < rowNumbers * n) ⊎ (rowNumbers * n + rowNumbers ≤ i)
+
+-- of two rows it lies in one at most
+apart : (m n i : ℕ) → (m ≡ n → ⊥) → Outside m i ⊎ Outside n i
+apart m n i d = go (below i (rowNumbers * m)) (below i (rowNumbers * m + rowNumbers)) (below m n)
+  where
+    go : (i < rowNumbers * m) ⊎ (rowNumbers * m ≤ i) → (i < rowNumbers * m + rowNumbers) ⊎ (rowNumbers * m + rowNumbers ≤ i) → (m < n) ⊎ (n ≤ m) → Outside m i ⊎ Outside n i
+    go (inl a) b c = inl (inl a)
+    go (inr a) (inr b) c = inl (inr b)
+    go (inr a) (inl b) (inl c) = inr (inl (omega arith))
+    go (inr a) (inl b) (inr c) = inr (inr (omega arith))
+
+-- of two runs that are alike at i, so are those with a row written
+put-alike : (t u : List ℕ) (n : ℕ) (r : Row) (i : ℕ) → length t ≡ length u → getD t i 0 ≡ getD u i 0 → getD (withRow t n r) i 0 ≡ getD (withRow u n r) i 0
+put-alike t u n r i l e = go (below i (rowNumbers * n)) (below i (rowNumbers * n + rowNumbers)) (below n (room t))
+  where
+    out : Outside n i → getD (withRow t n r) i 0 ≡ getD (withRow u n r) i 0
+    out o = kept-outside t n r i o ∙ e ∙ sym (kept-outside u n r i o)
+
+    go : (i < rowNumbers * n) ⊎ (rowNumbers * n ≤ i) → (i < rowNumbers * n + rowNumbers) ⊎ (rowNumbers * n + rowNumbers ≤ i) → (n < room t) ⊎ (room t ≤ n) → getD (withRow t n r) i 0 ≡ getD (withRow u n r) i 0
+    go (inl a) b c = out (inl a)
+    go (inr a) (inr b) c = out (inr b)
+    go (inr a) (inl b) (inl c) = put-at t n r i c a b ∙ sym (put-at u n r i (rw l at c) a b)
+    go (inr a) (inl b) (inr c) = ap (λ (x : List ℕ). getD x i 0) (with-out t n r c) ∙ e ∙ sym (ap (λ (x : List ℕ). getD x i 0) (with-out u n r (rw l at c)))
+
+-- two rows are written in either order
+pub withRow-swap : (t : List ℕ) (m n : ℕ) (q r : Row) → (m ≡ n → ⊥) → withRow (withRow t m q) n r ≡ withRow (withRow t n r) m q
+withRow-swap t m n q r d = ext-getD 0 (withRow (withRow t m q) n r) (withRow (withRow t n r) m q) same (λ i b. go i (apart m n i d))
+  where
+    same : length (withRow (withRow t m q) n r) ≡ length (withRow (withRow t n r) m q)
+    same = simp length-withRow
+
+    go : (i : ℕ) → Outside m i ⊎ Outside n i → getD (withRow (withRow t m q) n r) i 0 ≡ getD (withRow (withRow t n r) m q) i 0
+    go i (inl o) = put-alike (withRow t m q) t n r i (length-withRow t m q) (kept-outside t m q i o) ∙ sym (kept-outside (withRow t n r) m q i o)
+    go i (inr o) = kept-outside (withRow t m q) n r i o ∙ sym (put-alike (withRow t n r) t m q i (length-withRow t n r) (kept-outside t n r i o))
+
 -- ROWS ONE AFTER ANOTHER
 
 -- some, and then others
@@ -178,6 +249,25 @@ pub withRows-later : (t : List ℕ) (n : ℕ) (rs : List Row) → n + length rs 
 unfolding withRows
 withRows-later t n [] h = refl
 withRows-later t n (r ∷ rs) h = withRows-later (withRow t n r) (n + 1) rs (omega arith) ∙ withRow-later t n r (omega arith)
+
+-- a row before them
+withRow-withRows : (t : List ℕ) (m : ℕ) (q : Row) (n : ℕ) (rs : List Row) → m < n → withRow (withRows t n rs) m q ≡ withRows (withRow t m q) n rs
+unfolding withRows
+withRow-withRows t m q n [] h = refl
+withRow-withRows t m q n (r ∷ rs) h =
+    withRow-withRows (withRow t n r) m q (n + 1) rs (omega arith) ∙ ap (λ (l : List ℕ). withRows l (n + 1) rs) (withRow-swap t n m r q (λ e. omega arith))
+
+-- rows before others are written in either order
+pub withRows-swap : (t : List ℕ) (m : ℕ) (qs : List Row) (n : ℕ) (rs : List Row) → m + length qs ≤ n → withRows (withRows t n rs) m qs ≡ withRows (withRows t m qs) n rs
+unfolding withRows
+withRows-swap t m [] n rs h = refl
+withRows-swap t m (q ∷ qs) n rs h = rw (withRow-withRows t m q n rs (omega arith)) (withRows-swap (withRow t m q) (m + 1) qs n rs (omega arith))
+
+-- the rows before them are as they were
+pub rows-kept : (k : ℕ) (t : List ℕ) (n : ℕ) (rs : List Row) → k ≤ n → rowsOf k (withRows t n rs) ≡ rowsOf k t
+unfolding withRows
+rows-kept k t n [] h = refl
+rows-kept k t n (r ∷ rs) h = rows-kept k (withRow t n r) (n + 1) rs (omega arith) ∙ rows-alike k (withRow t n r) t (λ i b. kept-outside t n r i (inl (omega arith)))
 
 -- CLEARED
 

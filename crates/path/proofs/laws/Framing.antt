@@ -1,0 +1,183 @@
+-- A bundle is accepted as framed exactly if it is the writing of 1 to 8 certificates, of at most 65,536 octets. Assumes nothing.
+--     framing-reads    the writing of 1 to 8 certificates is framed, and their number is found
+--     framing-exact    what is accepted as framed is the writing of so many certificates
+use mathlib.Core.Path.{_≡_, refl, sym, ap, _∙_}
+use mathlib.Core.List.{List, [], _∷_, _++_, append-assoc}
+use mathlib.Core.Bool.{true, false}
+use Prim.Native.Nat.{ℕ, zero, suc, _+_, _*_, _/_, _%_, _≤_, _<_}
+use native.Mathlib.Omega.{arith}
+use lib.ListN.{length, getD, take, drop, length-append, take-append-drop}
+use lib.Dec.{ltb, eqb}
+use lib.Seq.{length-take-le, drop-cons, drop-drop, drop-append-seam, getD-drop}
+use borrow.Author.Tests.{ltb-false, eqb-true, eqb-false}
+use Rattle.number.specs.Octets.{Octets}
+use Rattle.number.specs.declared.refusal.Refusal.{Refusal}
+use Rattle.number.specs.declared.refusal.Refusal.the-variants as refusal
+use Rattle.number.proofs.Picks.{picks, pick-not, pick-is}
+use Rattle.path.specs.Bundle.{leastOctets, mostOctets, mostCertificates, endOf, onAfter, isValues, isMarked, frameOf, valueOctets, certificatesOctets, bundleOf}
+use Rattle.path.specs.declared.bundles.Framing.the-variants.{Certificates, Refused}
+use Rattle.path.specs.declared.bundles.End.{End}
+use Rattle.path.specs.declared.bundles.End.the-variants as end
+use Rattle.path.proofs.Framed.{Ends, ends, end-at}
+
+-- WHAT IS WRITTEN IS FRAMED
+
+-- a value that is written down ends where it ends
+value-ends : (v rest : List ℕ) → endOf (valueOctets v ++ rest) ≡ end.At (2 + length v)
+value-ends v rest =
+    let n = length v in
+    let e : n / 256 * 256 + n % 256 ≡ n = omega arith in
+    let l = length-append v rest in
+    sym (ap (λ (k : ℕ). end.At (2 + k)) (sym e) ∙ end-at (valueOctets v ++ rest) (n / 256) (n % 256) (omega arith) refl refl (omega arith))
+
+-- so the values after it are counted with one less
+value-reads : (k : ℕ) (v rest : List ℕ) → isValues (suc k) (valueOctets v ++ rest) ≡ isValues k rest
+unfolding isValues
+value-reads k v rest =
+    let d : drop (2 + length v) (valueOctets v ++ rest) ≡ rest = sym (drop-drop (length v) 2 (valueOctets v ++ rest)) ∙ drop-append-seam v rest in
+    rw (value-ends v rest, d)
+
+-- certificates that are written down are two values each, and nothing after them
+certificates-read : (cs : List (List ℕ × List ℕ)) → isValues (2 * length cs) (certificatesOctets cs) ≡ true
+unfolding isValues
+certificates-read [] = refl
+certificates-read (c ∷ cs) =
+    let n : 2 * suc (length cs) ≡ suc (suc (2 * length cs)) = omega arith in
+    rw (n, append-assoc (valueOctets (c .0)) (valueOctets (c .1)) (certificatesOctets cs))
+    (value-reads (suc (2 * length cs)) (c .0) (valueOctets (c .1) ++ certificatesOctets cs) ∙ value-reads (2 * length cs) (c .1) (certificatesOctets cs) ∙ certificates-read cs)
+
+-- The writing of 1 to 8 certificates, of at most 65,536 octets, is framed. That bound leaves each value fewer than 65,536 octets, so its length has 16 bits.
+pub framing-reads : (cs : List (List ℕ × List ℕ)) → 0 < length cs → length cs ≤ mostCertificates → length (bundleOf cs) ≤ mostOctets → frameOf (bundleOf cs) ≡ Certificates (length cs)
+unfolding frameOf bundleOf isMarked
+framing-reads cs some few fits =
+    let least : leastOctets ≤ length (bundleOf cs) = omega arith in
+    let five : 5 ≤ length (bundleOf cs) = omega arith in
+    let none : length cs ≡ 0 → ⊥ = (λ z. omega arith) in
+    let values = certificates-read cs in
+    sym (search picks depth 12 fits 20000)
+
+-- WHAT IS FRAMED WAS WRITTEN
+
+-- octets after the first k are octets
+octets-after : (k : ℕ) (s : List ℕ) → Octets s → Octets (drop k s)
+unfolding Octets
+octets-after k s o i = rw getD-drop (o (k + i))
+
+-- s begins with a value, and so many are left after it
+record Value (k : ℕ) (s : List ℕ) : Type 0 where
+  value : List ℕ
+  rest : List ℕ
+  written : s ≡ valueOctets value ++ rest
+  left : isValues k rest ≡ true
+  octets : Octets rest
+
+-- by where the value ends
+value-written : (k : ℕ) (s : List ℕ) (e : ℕ) → Octets s → Ends s e → isValues k (drop e s) ≡ true → Value k s
+unfolding Octets
+value-written k [] e o w h = let z : ⊥ = omega arith in absurd z
+value-written k (x ∷ []) e o w h = let z : ⊥ = omega arith in absurd z
+value-written k (x ∷ y ∷ s) e o w h =
+    let n = x * 256 + y in
+    let l : length (take n s) ≡ n = length-take-le n s (omega arith) in
+    let y-fits : y < 256 = o 1 in
+    let hi : length (take n s) / 256 ≡ x = omega arith in
+    let lo : length (take n s) % 256 ≡ y = omega arith in
+    let d : drop e (x ∷ y ∷ s) ≡ drop n s = ap (λ (i : ℕ). drop i (x ∷ y ∷ s)) (w .is) ∙ sym (drop-drop n 2 (x ∷ y ∷ s)) in
+    record {
+      value = take n s;
+      rest = drop n s;
+      written = rw (hi, lo, take-append-drop n s);
+      left = sym (ap (isValues k) d) ∙ h;
+      octets = octets-after n s (λ i. o (suc (suc i)));
+    }
+
+-- the first of the values
+first-value : (k : ℕ) (s : List ℕ) → Octets s → isValues (suc k) s ≡ true → Value k s
+unfolding isValues
+first-value k s o h = go (endOf s) refl h
+  where
+    go : (r : End) → endOf s ≡ r → onAfter r (λ e. isValues k (drop e s)) ≡ true → Value k s
+    go end.Cut p q = let z : _≡_ {A = ℕ} 0 1 = cc in absurd (omega arith)
+    go (end.At e) p q = value-written k s e o (ends s e p) q
+
+-- the octets s are the writing of n certificates
+record Certified (n : ℕ) (s : List ℕ) : Type 0 where
+  certificates : List (List ℕ × List ℕ)
+  written : s ≡ certificatesOctets certificates
+  count : n ≡ length certificates
+
+-- twice n values, and nothing after them, are n certificates
+certificates-written : (n : ℕ) (s : List ℕ) → Octets s → isValues (2 * n) s ≡ true → Certified n s
+unfolding isValues
+certificates-written zero [] o h = record { certificates = []; written = refl; count = refl }
+certificates-written zero (x ∷ s) o h = let z = eqb-true (length (x ∷ s)) 0 h in absurd (omega arith)
+certificates-written (suc n) s o h =
+    let m : 2 * suc n ≡ suc (suc (2 * n)) = omega arith in
+    let a = first-value (suc (2 * n)) s o (rw m at h) in
+    let b = first-value (2 * n) (a .rest) (a .octets) (a .left) in
+    let c = certificates-written n (b .rest) (b .octets) (b .left) in
+    record {
+      certificates = (a .value, b .value) ∷ c .certificates;
+      written =
+          a .written ∙ ap (λ (r : List ℕ). valueOctets (a .value) ++ r) (b .written ∙ ap (λ (r : List ℕ). valueOctets (b .value) ++ r) (c .written))
+          ∙ sym (append-assoc (valueOctets (a .value)) (valueOctets (b .value)) (certificatesOctets (c .certificates)));
+      count = ap suc (c .count);
+    }
+
+-- the octets of the head, and the others
+head-of : (b : List ℕ) → 6 ≤ length b → b ≡ getD b 0 0 ∷ getD b 1 0 ∷ getD b 2 0 ∷ getD b 3 0 ∷ getD b 4 0 ∷ getD b 5 0 ∷ drop 6 b
+head-of b l = cc (drop-cons b 0 0 (omega arith), drop-cons b 1 0 (omega arith), drop-cons b 2 0 (omega arith), drop-cons b 3 0 (omega arith), drop-cons b 4 0 (omega arith), drop-cons b 5 0 (omega arith))
+
+-- octets with the mark and the version begin with them
+marked : (b : List ℕ) (s : List ℕ) (n : ℕ) → 6 ≤ length b → isMarked b ≡ true → n ≡ getD b 5 0 → s ≡ drop 6 b → b ≡ 0x52 ∷ 0x43 ∷ 0x48 ∷ 0 ∷ 1 ∷ n ∷ s
+unfolding isMarked
+marked b s n l m p q =
+    let (_, m₀) = pick-not (ltb (length b) 5) true false _ never m in
+    let (e₀, m₁) = pick-is (eqb (getD b 0 0) 0x52) true _ false never m₀ in
+    let (e₁, m₂) = pick-is (eqb (getD b 1 0) 0x43) true _ false never m₁ in
+    let (e₂, m₃) = pick-is (eqb (getD b 2 0) 0x48) true _ false never m₂ in
+    let (e₃, e₄) = pick-is (eqb (getD b 3 0) 0) true _ false never m₃ in
+    cc (head-of b l, eqb-true (getD b 0 0) 0x52 e₀, eqb-true (getD b 1 0) 0x43 e₁, eqb-true (getD b 2 0) 0x48 e₂, eqb-true (getD b 3 0) 0 e₃, eqb-true (getD b 4 0) 1 e₄)
+  where
+    never : false ≡ true → ⊥
+    never e = let z : _≡_ {A = ℕ} 0 1 = cc in omega arith
+
+-- b is the writing of 1 to 8 certificates, n of them, of at most 65,536 octets
+pub record Framed (b : List ℕ) (n : ℕ) : Type 0 where
+  pub certificates : List (List ℕ × List ℕ)
+  pub written : b ≡ bundleOf certificates
+  pub count : n ≡ length certificates
+  pub some : 0 < length certificates
+  pub few : length certificates ≤ mostCertificates
+  pub fits : length (bundleOf certificates) ≤ mostOctets
+
+-- a refusal is no number of certificates
+no-refusal : {r : Refusal} {n : ℕ} → Refused r ≡ Certificates n → ⊥
+no-refusal {r} {n} e = let z : _≡_ {A = ℕ} 0 1 = cc in omega arith
+
+-- Octets that are accepted as framed are the writing of so many certificates.
+pub framing-exact : (b : List ℕ) (n : ℕ) → Octets b → frameOf b ≡ Certificates n → Framed b n
+unfolding frameOf bundleOf
+framing-exact b n o h =
+    let r = Certificates n in
+    let (t₀, h₀) = pick-not (ltb (length b) leastOctets) r (Refused refusal.Framing) _ no-refusal h in
+    let (t₁, h₁) = pick-not (ltb mostOctets (length b)) r (Refused refusal.Framing) _ no-refusal h₀ in
+    let (t₂, h₂) = pick-is (isMarked b) r _ (Refused refusal.Mark) no-refusal h₁ in
+    let (t₃, h₃) = pick-not (eqb (getD b 5 0) 0) r (Refused refusal.CertificateCount) _ no-refusal h₂ in
+    let (t₄, h₄) = pick-not (ltb mostCertificates (getD b 5 0)) r (Refused refusal.CertificateCount) _ no-refusal h₃ in
+    let (t₅, h₅) = pick-is (isValues (2 * getD b 5 0) (drop 6 b)) r (Certificates (getD b 5 0)) (Refused refusal.Framing) no-refusal h₄ in
+    let c = certificates-written (getD b 5 0) (drop 6 b) (octets-after 6 b o) t₅ in
+    let least = ltb-false (length b) leastOctets t₀ in
+    let most = ltb-false mostOctets (length b) t₁ in
+    let none = eqb-false (getD b 5 0) 0 t₃ in
+    let few = ltb-false mostCertificates (getD b 5 0) t₄ in
+    let same : getD b 5 0 ≡ n = cc in
+    let w = marked b (certificatesOctets (c .certificates)) (length (c .certificates)) least t₂ (sym (c .count)) (sym (c .written)) in
+    record {
+      certificates = c .certificates;
+      written = w;
+      count = sym same ∙ c .count;
+      some = omega (arith, c .count);
+      few = omega (arith, c .count);
+      fits = omega (arith, ap length w);
+    }

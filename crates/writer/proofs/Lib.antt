@@ -1,0 +1,12 @@
+pub mod Counting
+pub mod Framing
+pub mod Fronts
+pub mod Listing
+pub mod Numbering
+pub mod Passing
+pub mod Pieces
+pub mod Placing
+pub mod Replies
+pub mod Shaping
+pub mod Sizing
+pub mod laws

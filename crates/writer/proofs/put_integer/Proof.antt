@@ -1,0 +1,19 @@
+-- `writer::put_integer` meets its contract. Assumes nothing.
+use borrow.Author.Needs.{needs}
+use native.Mathlib.Omega.{arith}
+use Rattle.writer.proofs.Sizing.{head-most}
+use Rattle.writer.proofs.Pieces.{integer-put}
+use Rattle.writer.proofs.put_integer.Statement.{statement}
+use Rattle.writer.proofs.put_integer.Tie as tie
+
+pub put-integer-spec : {M : Type 1} → statement M
+put-integer-spec =
+    tie.close
+    (tie.spec
+    (λ c κs. search needs)  -- octets-requires
+    (λ c κs. search needs)  -- put-head-requires
+    (λ c κs. search needs)  -- head-size-requires
+    (λ c. omega (arith, head-most (c .before .before .before .before .before .before .octets .result)))  -- add-put
+    (λ c κs. search needs)  -- put-requires
+    (λ c. search needs)  -- same-length
+    (λ c. search (integer-put, needs)))  -- returns
