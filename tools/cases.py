@@ -9,13 +9,14 @@ two octets, high octet first; octets come with their count in two octets before 
     R  extension, table length, value
     F  table length, IP value, AS value
     W  kind (eight octets), numbers with their count before them (eight octets each), room
+    P  first table's length, second table's length, bundle (only those with a short table: all others are in the program `vectors`)
 
 After each value that is accepted the rows that were read are written again, which must give the same octets.
 Example 13 of document 01 (Appendix B's second value, 48 bits, octet ac) comes last.
 """
 import sys
 
-LETTERS = "RFW"
+LETTERS = "RFWP"
 TABLE = "3072"
 ROOM = "40000"
 EXAMPLE_13 = (
@@ -46,6 +47,9 @@ def case(letter, fields):
     if letter == "W":
         kind, rows, room = fields
         return b"W" + int(kind).to_bytes(8, "big") + numbers(rows) + number(room)
+    if letter == "P":
+        first, second, bundle = fields
+        return b"P" + number(first) + number(second) + octets(bundle)
     length, ip, ids = fields
     return b"F" + number(length) + octets(ip) + octets(ids)
 
@@ -64,6 +68,10 @@ def main(source, crate):
     for letter, _, *fields, answer in lines:
         if letter not in LETTERS:
             continue
+        if letter == "P":
+            if int(TABLE) <= min(int(fields[0]), int(fields[1])):
+                continue
+            answer = answer.replace("|", "\n").rstrip("\n")
         cases.append(case(letter, fields))
         answers.append(answer)
         if letter == "R" and answer.startswith("ok "):

@@ -1,10 +1,11 @@
-// Runs the shared cases of document 01 through the readers and the writer: a case after another on standard input, its answer as a line on standard output.
+// Runs the shared cases of document 01 through the readers, the writer and the path check: a case after another on standard input, its answer as a line on standard output.
 // tools/cases.py makes both files, crates/cases/stdin and stdout, from the shared cases.
 mod answers;
 mod fields;
 mod parted;
 mod written;
 
+use path::paths;
 use values::readings;
 
 // What the lent tables hold before a call.
@@ -56,6 +57,42 @@ fn writer_case() {
     written::run(kind, &numbers, n, &mut out, room);
 }
 
+// P: the first n octets of the room are a bundle, and the first numbers of both tables are lent.
+fn check_path(
+    room: &[u8],
+    n: usize,
+    first: &mut [u64],
+    length: usize,
+    second: &mut [u64],
+    other: usize,
+) {
+    if room.len() < n {
+        return;
+    }
+    if first.len() < length {
+        return;
+    }
+    if second.len() < other {
+        return;
+    }
+    let reply = paths::check(&room[0..n], &mut first[0..length], &mut second[0..other]);
+    let mut text = [0u8; report::ROOM];
+    let end = report::report(reply, first, &mut text);
+    if end <= report::ROOM {
+        io::write_all(1, &text[0..end]);
+    }
+}
+
+fn path_case() {
+    let mut first = [RUBBISH; 4096];
+    let mut second = [RUBBISH; 4096];
+    let mut room = [0u8; 65536];
+    let length = fields::number();
+    let other = fields::number();
+    let n = fields::octets(&mut room);
+    check_path(&room, n, &mut first, length, &mut second, other);
+}
+
 fn main() {
     let mut letter = [0u8; 1];
     let mut left: u32 = 100000;
@@ -67,6 +104,7 @@ fn main() {
         match which {
             b'R' => reader_case(),
             b'W' => writer_case(),
+            b'P' => path_case(),
             _ => part_case(),
         }
         left -= 1;

@@ -6,18 +6,11 @@ use values::parts;
 use values::readings;
 use values::readings::Reading;
 
-// Which value has the octets at fault: the IP value where there are none.
+// Whether the octets at fault are the AS value's.
 fn of_ids(reading: Reading) -> bool {
     match reading {
         Reading::Rows(_) => false,
-        Reading::Refused(fault) => {
-            let refusal = fault.refusal;
-            let number = refusal::number(refusal);
-            if number == 11 {
-                return false;
-            }
-            fault.extension == limits::AS_EXTENSION
-        }
+        Reading::Refused(fault) => fault.extension == limits::AS_EXTENSION,
     }
 }
 
@@ -26,14 +19,7 @@ fn has_part(reading: Reading) -> bool {
         Reading::Rows(_) => false,
         Reading::Refused(fault) => {
             let refusal = fault.refusal;
-            let number = refusal::number(refusal);
-            if number == 11 {
-                return false;
-            }
-            if number == 16 {
-                return false;
-            }
-            number != 1
+            parts::has_octets(refusal)
         }
     }
 }

@@ -1,4 +1,5 @@
 pub mod Openings
+pub mod Places
 pub mod Putting
 pub mod Pasting
 pub mod Tails

@@ -1,6 +1,7 @@
 pub mod Tags
 pub mod Head
 pub mod Opening
+pub mod Reader
 pub mod Integer
 pub mod Bits
 pub mod Strings

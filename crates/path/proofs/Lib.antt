@@ -1,8 +1,14 @@
+pub mod Accepting
+pub mod Anchored
+pub mod Bridging
+pub mod Checking
 pub mod Counting
+pub mod Descending
 pub mod Framed
 pub mod Inheriting
 pub mod Meeting
 pub mod Parts
 pub mod Putting
+pub mod Tabled
 pub mod Walking
 pub mod laws

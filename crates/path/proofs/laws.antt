@@ -2,3 +2,11 @@ pub mod Steps
 pub mod Walks
 pub mod Inherits
 pub mod Framing
+pub mod Lacking
+pub mod Lines
+pub mod Certificates
+pub mod Descents
+pub mod Path
+pub mod Faults
+pub mod Outside
+pub mod Starred

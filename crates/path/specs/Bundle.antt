@@ -25,6 +25,10 @@ mostCertificates = 8
 abbrev pub lengthOf : List ℕ → ℕ
 lengthOf s = getD s 0 0 * 256 + getD s 1 0
 
+-- the same as the code says it
+unfoldable pub lengthIn : List ℕ → ℕ
+lengthIn s = pick (ltb (length s) 2) 0 (lengthOf s)
+
 -- where that value ends, if it is not "cut short"
 unfoldable pub endOf : List ℕ → End
 endOf s = pick (ltb (length s) 2) end.Cut (pick (ltb (length s) (2 + lengthOf s)) end.Cut (end.At (2 + lengthOf s)))
@@ -58,6 +62,18 @@ frameOf b =
     (pick (ltb mostCertificates (getD b 5 0)) (Refused refusal.CertificateCount)
     (pick (isValues (2 * getD b 5 0) (drop 6 b)) (Certificates (getD b 5 0)) (Refused refusal.Framing))))
     (Refused refusal.Mark)))
+
+-- the value that s begins with, and what comes after it
+abbrev pub valueIn : List ℕ → List ℕ
+valueIn s = take (lengthOf s) (drop 2 s)
+
+abbrev pub afterValue : List ℕ → List ℕ
+afterValue s = drop (2 + lengthOf s) s
+
+-- "for each certificate from the anchor down: 16-bit length, IPAddrBlocks, 16-bit length, ASIdentifiers": the two values of each
+abbrev pub certificatesIn : ℕ → List ℕ → List (List ℕ × List ℕ)
+certificatesIn zero s = []
+certificatesIn (suc k) s = (valueIn s, valueIn (afterValue s)) ∷ certificatesIn k (afterValue (afterValue s))
 
 -- how a certificate is written down: its IP value and its AS value, empty where absent
 abbrev pub valueOctets : List ℕ → List ℕ

@@ -33,6 +33,16 @@ fn wide(x: u8) -> usize
     x as usize
 }
 
+// Returns the 16-bit length that s begins with, high octet first; 0 where it is not there.
+pub fn length(s: &[u8]) -> usize
+    ensures { λ r. ⌜ (r ≡ spec.lengthIn (now (s .entry))) × (r < 65536) ⌝ }
+{
+    if s.len() < 2 {
+        return 0;
+    }
+    wide(s[0]) * 256 + wide(s[1])
+}
+
 // Returns where the value ends that s begins with, with its length before it.
 pub fn value_end(s: &[u8]) -> End
     ensures { λ r. ⌜ r ≡ spec.endOf (now (s .entry)) ⌝ }
@@ -40,7 +50,7 @@ pub fn value_end(s: &[u8]) -> End
     if s.len() < 2 {
         return End::Cut;
     }
-    let end = 2 + (wide(s[0]) * 256 + wide(s[1]));
+    let end = 2 + length(s);
     if s.len() < end {
         return End::Cut;
     }

@@ -21,7 +21,7 @@ use Rattle.values.specs.Identifiers.{readIdentifiers}
 use Rattle.values.specs.Tables.{tabled, blocksRows, identifiersRows, ipRows, asRows}
 use Rattle.values.specs.Into.{Stands, CountedInto}
 use Rattle.values.specs.Inside.{IpIn, AsIn, BothIn}
-use Rattle.values.specs.Readings.{Left, refusedAt, answered, settled, stepOf, stepIp, stepAs, alone, readIp, readAs, onAs, readBoth}
+use Rattle.values.specs.Readings.{Left, refusedAt, answered, settled, stepOf, stepIp, stepAs, alone, readIp, readAs, onAs, stepBoth, readBoth}
 use Rattle.values.specs.declared.elements.Counted.{Counted}
 use Rattle.values.specs.declared.elements.Counted.the-variants as counted
 use Rattle.values.specs.declared.readings.Refused as refused
@@ -135,19 +135,23 @@ module _ (ip ids t : List ℕ) where
   unfolding readBoth
   both-short x h e = rw (lt-ltb (length t) tableNumbers h, e)
 
-  pub both-absent : (x : Reading) (y t′ : List ℕ) → tableNumbers ≤ length t → length ip ≡ 0 → t′ ≡ cleared tableNumbers t → _≡_ {A = Left} (x, y) (onAs ids t′ (reading.Rows 0)) → _≡_ {A = Left} (x, y) (readBoth ip ids t)
+  pub both-cleared : (x : Reading) (y t′ : List ℕ) → tableNumbers ≤ length t → t′ ≡ cleared tableNumbers t → _≡_ {A = Left} (x, y) (stepBoth ip ids t′) → _≡_ {A = Left} (x, y) (readBoth ip ids t)
   unfolding readBoth
-  both-absent x y t′ h g u e = rw (le-ltb (length t) tableNumbers h, eq-eqb (length ip) 0 g, ← u) e
+  both-cleared x y t′ h u e = rw (le-ltb (length t) tableNumbers h, ← u) e
 
-  module _ (z : Reading) (t′ t″ : List ℕ) (h : tableNumbers ≤ length t) (g : length ip ≡ 0 → ⊥) (u : t′ ≡ cleared tableNumbers t) (i : _≡_ {A = Left} (z, t″) (stepIp ip t′)) where
-    opened : readBoth ip ids t ≡ onAs ids t″ z
-    unfolding readBoth
-    opened = rw (le-ltb (length t) tableNumbers h, ne-eqb (length ip) 0 g, ← u, ← i)
+  pub both-absent : (x : Reading) (y : List ℕ) → length ip ≡ 0 → _≡_ {A = Left} (x, y) (onAs ids t (reading.Rows 0)) → _≡_ {A = Left} (x, y) (stepBoth ip ids t)
+  unfolding stepBoth
+  both-absent x y g e = rw (eq-eqb (length ip) 0 g) e
 
-    pub both-refused : (f : refused.Refused) → z ≡ reading.Refused f → _≡_ {A = Left} (z, t″) (readBoth ip ids t)
+  module _ (z : Reading) (t′ : List ℕ) (g : length ip ≡ 0 → ⊥) (i : _≡_ {A = Left} (z, t′) (stepIp ip t)) where
+    opened : stepBoth ip ids t ≡ onAs ids t′ z
+    unfolding stepBoth
+    opened = rw (ne-eqb (length ip) 0 g, ← i)
+
+    pub both-refused : (f : refused.Refused) → z ≡ reading.Refused f → _≡_ {A = Left} (z, t′) (stepBoth ip ids t)
     both-refused f e = rw (opened, e)
 
-    pub both-step : (n : ℕ) (x : Reading) (y : List ℕ) → z ≡ reading.Rows n → _≡_ {A = Left} (x, y) (onAs ids t″ (reading.Rows n)) → _≡_ {A = Left} (x, y) (readBoth ip ids t)
+    pub both-step : (n : ℕ) (x : Reading) (y : List ℕ) → z ≡ reading.Rows n → _≡_ {A = Left} (x, y) (onAs ids t′ (reading.Rows n)) → _≡_ {A = Left} (x, y) (stepBoth ip ids t)
     both-step n x y e q = rw (opened, e) q
 
 -- the places

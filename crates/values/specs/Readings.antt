@@ -80,10 +80,11 @@ onAs v t (reading.Refused f) = (reading.Refused f, t)
 abbrev pub thenAs : List ℕ → Left → Left
 thenAs v l = onAs v (l .1) (l .0)
 
+unfoldable pub stepBoth : List ℕ → List ℕ → List ℕ → Left
+stepBoth ip ids t = thenAs ids (pick (eqb (length ip) 0) (reading.Rows 0, t) (stepIp ip t))
+
 unfoldable pub readBoth : List ℕ → List ℕ → List ℕ → Left
-readBoth ip ids t =
-    pick (ltb (length t) tableNumbers) (short t)
-    (thenAs ids (pick (eqb (length ip) 0) (reading.Rows 0, cleared tableNumbers t) (stepIp ip (cleared tableNumbers t))))
+readBoth ip ids t = pick (ltb (length t) tableNumbers) (short t) (stepBoth ip ids (cleared tableNumbers t))
 
 -- a reply in this paper's numbers: number (0 if accepted), certificate, extension, place, space, value in halves, rows, pairs
 abbrev pub paper : Reading → List ℕ

@@ -12,6 +12,7 @@ use crate::elements::Counted;
 use crate::elements::Space;
 use der::heads;
 use der::heads::Opening;
+use der::readers;
 use der::strings;
 use der::tags;
 use number::refusal::Refusal;
@@ -133,7 +134,7 @@ fn families(s: &[u8], table: &mut [u64]) -> Counted
 pub fn read(value: &[u8], table: &mut [u64]) -> Counted
     ensures { λ r. ⌜ CountedInto blocksRows (length (now (value .entry))) 0 (now (table .entry)) (spec.readBlocks (now (value .entry))) r (now (table .exit)) ⌝ }
 {
-    match heads::open(tags::SEQUENCE, value) {
+    match readers::outermost(tags::SEQUENCE, value) {
         Opening::Bad(refusal) => Counted::Bad(refusal, 0),
         Opening::Is(k, end) => match families(&value[k..end], table) {
             Counted::Bad(refusal, at) => Counted::Bad(refusal, k + at),

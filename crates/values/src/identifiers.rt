@@ -14,6 +14,7 @@ use crate::elements::Space;
 use crate::limits;
 use der::heads;
 use der::heads::Opening;
+use der::readers;
 use der::tags;
 use number::refusal::Refusal;
 
@@ -92,7 +93,7 @@ fn members(s: &[u8], count: usize, table: &mut [u64]) -> Counted
 pub fn read(value: &[u8], count: usize, table: &mut [u64]) -> Counted
     ensures { λ r. ⌜ CountedInto identifiersRows (length (now (value .entry))) count (now (table .entry)) (spec.readIdentifiers count (now (value .entry))) r (now (table .exit)) ⌝ }
 {
-    match heads::open(tags::SEQUENCE, value) {
+    match readers::outermost(tags::SEQUENCE, value) {
         Opening::Bad(refusal) => Counted::Bad(refusal, 0),
         Opening::Is(k, end) => {
             if k == end {

@@ -8,8 +8,8 @@ ghost use Rattle.values.specs.Readings.{readBoth};
 use number::refusal;
 use number::refusal::Refusal;
 
-// Whether a refusal has octets at fault: "the refusal is 11, 16 or 1" has none.
-fn has_octets(refusal: Refusal) -> bool
+// Returns whether a refusal has octets at fault: "the refusal is 11, 16 or 1" has none.
+pub fn has_octets(refusal: Refusal) -> bool
     ensures { λ r. ⌜ r ≡ hasOctets refusal ⌝ }
 {
     let number = refusal::number(refusal);

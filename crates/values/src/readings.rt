@@ -131,6 +131,22 @@ fn after_ip(count: usize, ids: &[u8], table: &mut [u64]) -> Reading
     step_as(ids, count, table)
 }
 
+// Reads one certificate's two values as a step of a path: IP rows, then AS rows; an empty value is absent.
+// Returns the rows, or the refusal; on a refusal but 16 the first 3,072 numbers of the table are zero.
+pub fn step_both(ip: &[u8], ids: &[u8], table: &mut [u64]) -> Reading
+    ensures { λ r. ⌜ (r, now (table .exit)) ≡ spec.stepBoth (now (ip .entry)) (now (ids .entry)) (now (table .entry)) ⌝ }
+    ensures { λ r. ⌜ BothIn (length (now (ip .entry))) (length (now (ids .entry))) r ⌝ }
+{
+    if ip.len() == 0 {
+        return after_ip(0, ids, table);
+    }
+    let reading = step_ip(ip, table);
+    match reading {
+        Reading::Refused(_) => reading,
+        Reading::Rows(n) => after_ip(n, ids, table),
+    }
+}
+
 // Reads one certificate's two values: IP rows, then AS rows; an empty value is absent.
 // Returns the rows, or the refusal; but on 16 the first 3,072 numbers of the table are the rows and then zeros.
 pub fn read_both(ip: &[u8], ids: &[u8], table: &mut [u64]) -> Reading
@@ -141,12 +157,5 @@ pub fn read_both(ip: &[u8], ids: &[u8], table: &mut [u64]) -> Reading
         return refuse(Refusal::TableShort, 0, 0);
     }
     rows::clear(table, rows::NUMBERS);
-    if ip.len() == 0 {
-        return after_ip(0, ids, table);
-    }
-    let reading = step_ip(ip, table);
-    match reading {
-        Reading::Refused(_) => reading,
-        Reading::Rows(n) => after_ip(n, ids, table),
-    }
+    step_both(ip, ids, table)
 }

@@ -23,6 +23,7 @@ main-spec =
     (λ c. search needs)  -- array-read-which
     (λ c κs. search needs)  -- reader-case-requires
     (λ c κs. search needs)  -- writer-case-requires
+    (λ c κs. search needs)  -- path-case-requires
     (λ c κs. search needs)  -- part-case-requires
     (λ c. search needs)  -- sub-left
     (λ c. search needs)  -- loop-less

@@ -1,5 +1,6 @@
 -- A bundle is accepted as framed exactly if it is the writing of 1 to 8 certificates, of at most 65,536 octets. Assumes nothing.
 --     framing-reads    the writing of 1 to 8 certificates is framed, and their number is found
+--     framing-finds    and they themselves are found
 --     framing-exact    what is accepted as framed is the writing of so many certificates
 use mathlib.Core.Path.{_≡_, refl, sym, ap, _∙_}
 use mathlib.Core.List.{List, [], _∷_, _++_, append-assoc}
@@ -8,17 +9,17 @@ use Prim.Native.Nat.{ℕ, zero, suc, _+_, _*_, _/_, _%_, _≤_, _<_}
 use native.Mathlib.Omega.{arith}
 use lib.ListN.{length, getD, take, drop, length-append, take-append-drop}
 use lib.Dec.{ltb, eqb}
-use lib.Seq.{length-take-le, drop-cons, drop-drop, drop-append-seam, getD-drop}
+use lib.Seq.{length-take-le, drop-cons, drop-drop, take-append-seam, drop-append-seam, getD-drop}
 use borrow.Author.Tests.{ltb-false, eqb-true, eqb-false}
 use Rattle.number.specs.Octets.{Octets}
 use Rattle.number.specs.declared.refusal.Refusal.{Refusal}
 use Rattle.number.specs.declared.refusal.Refusal.the-variants as refusal
 use Rattle.number.proofs.Picks.{picks, pick-not, pick-is}
-use Rattle.path.specs.Bundle.{leastOctets, mostOctets, mostCertificates, endOf, onAfter, isValues, isMarked, frameOf, valueOctets, certificatesOctets, bundleOf}
+use Rattle.path.specs.Bundle.{leastOctets, mostOctets, mostCertificates, endOf, onAfter, isValues, isMarked, frameOf, valueIn, afterValue, certificatesIn, valueOctets, certificatesOctets, bundleOf}
 use Rattle.path.specs.declared.bundles.Framing.the-variants.{Certificates, Refused}
 use Rattle.path.specs.declared.bundles.End.{End}
 use Rattle.path.specs.declared.bundles.End.the-variants as end
-use Rattle.path.proofs.Framed.{Ends, ends, end-at}
+use Rattle.path.proofs.Framed.{Ends, ends, length-is, end-at}
 
 -- WHAT IS WRITTEN IS FRAMED
 
@@ -28,7 +29,7 @@ value-ends v rest =
     let n = length v in
     let e : n / 256 * 256 + n % 256 ≡ n = omega arith in
     let l = length-append v rest in
-    sym (ap (λ (k : ℕ). end.At (2 + k)) (sym e) ∙ end-at (valueOctets v ++ rest) (n / 256) (n % 256) (omega arith) refl refl (omega arith))
+    sym (end-at (valueOctets v ++ rest) n (omega arith) (sym e ∙ length-is (valueOctets v ++ rest) (n / 256) (n % 256) (omega arith) refl refl) (omega arith))
 
 -- so the values after it are counted with one less
 value-reads : (k : ℕ) (v rest : List ℕ) → isValues (suc k) (valueOctets v ++ rest) ≡ isValues k rest
@@ -38,7 +39,7 @@ value-reads k v rest =
     rw (value-ends v rest, d)
 
 -- certificates that are written down are two values each, and nothing after them
-certificates-read : (cs : List (List ℕ × List ℕ)) → isValues (2 * length cs) (certificatesOctets cs) ≡ true
+pub certificates-read : (cs : List (List ℕ × List ℕ)) → isValues (2 * length cs) (certificatesOctets cs) ≡ true
 unfolding isValues
 certificates-read [] = refl
 certificates-read (c ∷ cs) =
@@ -55,6 +56,32 @@ framing-reads cs some few fits =
     let none : length cs ≡ 0 → ⊥ = (λ z. omega arith) in
     let values = certificates-read cs in
     sym (search picks depth 12 fits 20000)
+
+-- a value that is written down is found, and what comes after it
+value-found : (v rest : List ℕ) → valueIn (valueOctets v ++ rest) ≡ v
+value-found v rest = let e : length v / 256 * 256 + length v % 256 ≡ length v = omega arith in rw e (take-append-seam v rest)
+
+value-left : (v rest : List ℕ) → afterValue (valueOctets v ++ rest) ≡ rest
+value-left v rest =
+    let e : length v / 256 * 256 + length v % 256 ≡ length v = omega arith in
+    rw e (sym (drop-drop (length v) 2 (valueOctets v ++ rest)) ∙ drop-append-seam v rest)
+
+-- so a certificate is, and those after it
+more-found : (k : ℕ) (s r q v w : List ℕ) (cs : List (List ℕ × List ℕ)) → valueIn s ≡ v → afterValue s ≡ r → valueIn r ≡ w → afterValue r ≡ q → certificatesIn k q ≡ cs → certificatesIn (suc k) s ≡ (v, w) ∷ cs
+more-found k s r q v w cs e f g h i = rw (f, e, g, h, i)
+
+-- The certificates that are written down are found.
+pub framing-finds : (cs : List (List ℕ × List ℕ)) → certificatesIn (length cs) (drop 6 (bundleOf cs)) ≡ cs
+unfolding bundleOf
+framing-finds cs = go cs
+  where
+    go : (cs : List (List ℕ × List ℕ)) → certificatesIn (length cs) (certificatesOctets cs) ≡ cs
+    go [] = refl
+    go (c ∷ cs) =
+        let others = certificatesOctets cs in
+        let rest = valueOctets (c .1) ++ others in
+        ap (λ (s : List ℕ). certificatesIn (length (c ∷ cs)) s) (append-assoc (valueOctets (c .0)) (valueOctets (c .1)) others)
+        ∙ more-found (length cs) (valueOctets (c .0) ++ rest) rest others (c .0) (c .1) cs (value-found (c .0) rest) (value-left (c .0) rest) (value-found (c .1) others) (value-left (c .1) others) (go cs)
 
 -- WHAT IS FRAMED WAS WRITTEN
 
@@ -125,11 +152,11 @@ certificates-written (suc n) s o h =
     }
 
 -- the octets of the head, and the others
-head-of : (b : List ℕ) → 6 ≤ length b → b ≡ getD b 0 0 ∷ getD b 1 0 ∷ getD b 2 0 ∷ getD b 3 0 ∷ getD b 4 0 ∷ getD b 5 0 ∷ drop 6 b
+pub head-of : (b : List ℕ) → 6 ≤ length b → b ≡ getD b 0 0 ∷ getD b 1 0 ∷ getD b 2 0 ∷ getD b 3 0 ∷ getD b 4 0 ∷ getD b 5 0 ∷ drop 6 b
 head-of b l = cc (drop-cons b 0 0 (omega arith), drop-cons b 1 0 (omega arith), drop-cons b 2 0 (omega arith), drop-cons b 3 0 (omega arith), drop-cons b 4 0 (omega arith), drop-cons b 5 0 (omega arith))
 
 -- octets with the mark and the version begin with them
-marked : (b : List ℕ) (s : List ℕ) (n : ℕ) → 6 ≤ length b → isMarked b ≡ true → n ≡ getD b 5 0 → s ≡ drop 6 b → b ≡ 0x52 ∷ 0x43 ∷ 0x48 ∷ 0 ∷ 1 ∷ n ∷ s
+pub marked : (b : List ℕ) (s : List ℕ) (n : ℕ) → 6 ≤ length b → isMarked b ≡ true → n ≡ getD b 5 0 → s ≡ drop 6 b → b ≡ 0x52 ∷ 0x43 ∷ 0x48 ∷ 0 ∷ 1 ∷ n ∷ s
 unfolding isMarked
 marked b s n l m p q =
     let (_, m₀) = pick-not (ltb (length b) 5) true false _ never m in

@@ -20,11 +20,11 @@ use Rattle.path.specs.Inherit.{Keeps, listed, inherited, later, inSpace,
 use Rattle.path.proofs.laws.Walks.{AllListed, empty}
 
 -- what a test of a row's space, or of its mark, found
-data Tested (x t : ℕ) : Bool → Type 0 where
+pub data Tested (x t : ℕ) : Bool → Type 0 where
   is : x ≡ t → Tested x t true
   is-not : (x ≡ t → ⊥) → Tested x t false
 
-tested : (x t : ℕ) → Tested x t (eqb x t)
+pub tested : (x t : ℕ) → Tested x t (eqb x t)
 tested x t = go (eqb x t) refl
   where
     go : (b : Bool) → eqb x t ≡ b → Tested x t b

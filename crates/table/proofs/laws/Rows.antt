@@ -8,10 +8,12 @@
 --     withRow-later              the numbers after a table's rows stay
 --     withRow-swap               two rows are written in either order
 --     withRows-append, withRows-snoc, length-withRows, withRows-later, withRows-swap    the same of rows one after another
---     rows-kept                  the rows before those that are written
+--     withRow-over, withRows-over    what is written over is gone
+--     rows-kept, rows-written    the rows before those that are written, and those that are
 --     length-cleared, cleared-zero, cleared-later
+--     cleared-twice, cleared-rows    what is cleared does not matter
 use mathlib.Core.Path.{_≡_, refl, sym, ap, ap₂, _∙_}
-use mathlib.Core.List.{List, [], _∷_, _++_, append-assoc}
+use mathlib.Core.List.{List, [], _∷_, _++_, append-nil, append-assoc}
 use mathlib.Core.Logic.{_⊎_, inl, inr}
 use Prim.Native.Nat.{ℕ, zero, suc, min, _+_, _-_, _*_, _≤_, _<_}
 use native.Mathlib.Nat.{add-zero, zero-add, suc-add}
@@ -223,6 +225,19 @@ withRow-swap t m n q r d = ext-getD 0 (withRow (withRow t m q) n r) (withRow (wi
     go i (inl o) = put-alike (withRow t m q) t n r i (length-withRow t m q) (kept-outside t m q i o) ∙ sym (kept-outside (withRow t n r) m q i o)
     go i (inr o) = kept-outside (withRow t m q) n r i o ∙ sym (put-alike (withRow t n r) t m q i (length-withRow t n r) (kept-outside t n r i o))
 
+-- a row that is written over is gone
+pub withRow-over : (t : List ℕ) (n : ℕ) (q r : Row) → withRow (withRow t n q) n r ≡ withRow t n r
+withRow-over t n q r = ext-getD 0 (withRow (withRow t n q) n r) (withRow t n r) (simp length-withRow) (λ i b. go i (below i (rowNumbers * n)) (below i (rowNumbers * n + rowNumbers)) (below n (room t)))
+  where
+    out : (i : ℕ) → Outside n i → getD (withRow (withRow t n q) n r) i 0 ≡ getD (withRow t n r) i 0
+    out i o = kept-outside (withRow t n q) n r i o ∙ kept-outside t n q i o ∙ sym (kept-outside t n r i o)
+
+    go : (i : ℕ) → (i < rowNumbers * n) ⊎ (rowNumbers * n ≤ i) → (i < rowNumbers * n + rowNumbers) ⊎ (rowNumbers * n + rowNumbers ≤ i) → (n < room t) ⊎ (room t ≤ n) → getD (withRow (withRow t n q) n r) i 0 ≡ getD (withRow t n r) i 0
+    go i (inl a) b c = out i (inl a)
+    go i (inr a) (inr b) c = out i (inr b)
+    go i (inr a) (inl b) (inl c) = put-at (withRow t n q) n r i (rw length-withRow c) a b ∙ sym (put-at t n r i c a b)
+    go i (inr a) (inl b) (inr c) = ap (λ (l : List ℕ). getD (withRow l n r) i 0) (with-out t n q c)
+
 -- ROWS ONE AFTER ANOTHER
 
 -- some, and then others
@@ -269,6 +284,32 @@ unfolding withRows
 rows-kept k t n [] h = refl
 rows-kept k t n (r ∷ rs) h = rows-kept k (withRow t n r) (n + 1) rs (omega arith) ∙ rows-alike k (withRow t n r) t (λ i b. kept-outside t n r i (inl (omega arith)))
 
+-- the rows before them, and then those that are written
+rows-on : (t : List ℕ) (n : ℕ) (rs : List Row) → n + length rs ≤ room t → rowsOf (n + length rs) (withRows t n rs) ≡ rowsOf n t ++ rs
+unfolding withRows
+rows-on t n [] h = rw (add-zero, append-nil)
+rows-on t n (r ∷ rs) h =
+    let e : n + suc (length rs) ≡ n + 1 + length rs = omega arith in
+    let k : n + 1 + length rs ≤ room (withRow t n r) = rw length-withRow (omega arith) in
+    ap (λ (i : ℕ). rowsOf i (withRows (withRow t n r) (n + 1) rs)) e
+    ∙ rows-on (withRow t n r) (n + 1) rs k
+    ∙ ap (λ (l : List Row). l ++ rs) (rows-put t n r (omega arith))
+    ∙ append-assoc (rowsOf n t) (r ∷ []) rs
+
+-- from the first row on
+pub rows-written : (t : List ℕ) (rs : List Row) → length rs ≤ room t → rowsOf (length rs) (withRows t 0 rs) ≡ rs
+unfolding rowsOf
+rows-written t rs h = rw zero-add at (rows-on t 0 rs (rw zero-add h))
+
+-- rows that are written over by as many are gone
+pub withRows-over : (t : List ℕ) (n : ℕ) (qs rs : List Row) → length qs ≤ length rs → withRows (withRows t n qs) n rs ≡ withRows t n rs
+unfolding withRows
+withRows-over t n [] rs h = refl
+withRows-over t n (q ∷ qs) [] h = absurd (omega arith)
+withRows-over t n (q ∷ qs) (r ∷ rs) h =
+    rw (withRow-withRows (withRow t n q) n r (n + 1) qs (omega arith), withRow-over t n q r)
+    (withRows-over (withRow t n r) (n + 1) qs rs (omega arith))
+
 -- CLEARED
 
 module _ (n : ℕ) (t : List ℕ) where
@@ -305,3 +346,16 @@ module _ (n : ℕ) (t : List ℕ) where
           let d : n + (k - n) ≡ k = omega arith in
           rw q (past (replicate n 0) (drop n t) n k (length-replicate n 0) h ∙ getD-drop n t (k - n) 0 ∙ ap (λ (i : ℕ). getD t i 0) d)
       go (inr a) = at-end k a ∙ sym (List·getD-eq-default t 0 a)
+
+-- what was there does not matter: numbers that are cleared already,
+pub cleared-twice : (n : ℕ) (t : List ℕ) → cleared n (cleared n t) ≡ cleared n t
+cleared-twice n t = ext-getD 0 (cleared n (cleared n t)) (cleared n t) (length-cleared n (cleared n t)) (λ k b. go k (below k n))
+  where
+    go : (k : ℕ) → (k < n) ⊎ (n ≤ k) → getD (cleared n (cleared n t)) k 0 ≡ getD (cleared n t) k 0
+    go k (inl h) = cleared-zero n (cleared n t) k h ∙ sym (cleared-zero n t k h)
+    go k (inr h) = cleared-later n (cleared n t) k h
+
+-- or a table's rows
+pub cleared-rows : (t : List ℕ) (n : ℕ) (rs : List Row) → n + length rs ≤ maxRows → cleared tableNumbers (withRows t n rs) ≡ cleared tableNumbers t
+unfolding cleared
+cleared-rows t n rs h = rw (length-withRows, withRows-later)

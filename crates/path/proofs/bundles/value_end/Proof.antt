@@ -11,12 +11,7 @@ value-end-spec =
     tie.close
     (tie.spec
     (λ c. unfold endOf in search (picks, needs))  -- returns
-    (λ c. search needs)  -- shared-slice-read-wide
-    (λ c κs. search needs)  -- wide-requires
-    (λ c. search needs)  -- mul-end
-    (λ c. search needs)  -- shared-slice-read-wide-2
-    (λ c κs. search needs)  -- wide-requires-2
+    (λ c κs. search needs)  -- length-requires
     (λ c. search needs)  -- add-end
-    (λ c. search needs)  -- add-end-2
     (λ c. search (end-cut, needs))  -- returns-2
     (λ c. search (end-at, needs)))  -- returns-3

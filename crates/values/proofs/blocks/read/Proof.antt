@@ -9,7 +9,7 @@ pub read-spec : {M : Type 1} → statement M
 read-spec =
     tie.close
     (tie.spec
-    (λ c κs. search needs)  -- open-requires
+    (λ c κs. search needs)  -- outermost-requires
     (λ c. search needs)  -- enum-known-refusal
     (λ c. search needs)  -- enum-known-k
     (λ c. search (tag-order, needs))  -- sub-families

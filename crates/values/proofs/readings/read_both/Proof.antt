@@ -1,6 +1,6 @@
 -- `values::readings::read_both` meets its contract. Assumes nothing.
 use borrow.Author.Needs.{needs}
-use Rattle.values.proofs.Settling.{both-short, both-absent, both-refused, both-step, both-in-zero, both-in-ip, both-in-as}
+use Rattle.values.proofs.Settling.{both-short, both-cleared, both-in-zero}
 use Rattle.values.proofs.readings.read_both.Statement.{statement}
 use Rattle.values.proofs.readings.read_both.Tie as tie
 
@@ -11,14 +11,6 @@ read-both-spec =
     (λ c κs. search needs)  -- refuse-requires
     (λ c. search (both-short, both-in-zero, needs))  -- returns
     (λ c κs. search needs)  -- clear-requires
-    (λ c κs. search needs)  -- after-ip-requires
+    (λ c κs. search needs)  -- step-both-requires
     (λ c. search needs)  -- same-length
-    (λ c. search (both-absent, both-in-as, needs))  -- returns-2
-    (λ c κs. search needs)  -- step-ip-requires
-    (λ c. search needs)  -- enum-told
-    (λ c. search needs)  -- enum-known-reading
-    (λ c κs. search needs)  -- after-ip-requires-2
-    (λ c. search needs)  -- same-length-2
-    (λ c. search (both-refused, both-in-ip, needs))  -- returns-3
-    (λ c. search needs)  -- same-length-3
-    (λ c. search (both-step, both-in-as, needs)))  -- returns-4
+    (λ c. search (both-cleared, needs)))  -- returns-2
