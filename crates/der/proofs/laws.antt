@@ -4,3 +4,4 @@ pub mod Bits
 pub mod Walks
 pub mod Parts
 pub mod Writing
+pub mod OneReply

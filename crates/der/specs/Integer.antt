@@ -1,7 +1,7 @@
 -- The contents of an INTEGER. "Numbers are 0 to 4,294,967,295, minimal."
 use Prim.Native.Nat.{ℕ, _^_}
 use mathlib.Core.List.{List}
-use mathlib.Core.Bool.{Bool, true, false}
+use mathlib.Core.Bool.{Bool, false}
 use lib.ListN.{length, getD}
 use lib.Dec.{ltb, leb, eqb}
 use Rattle.number.specs.Tests.{pick}

@@ -1,7 +1,7 @@
 -- Ways to make a reader of smaller ones. A reader of contents takes all of a list; a reader of a part takes the start of one and gives the rest.
 -- A refusal is of a type E that nothing here looks into. A reader that comes after something is told how many octets that took, so that it can say its place.
 use Prim.Native.Nat.{ℕ, _+_, _-_}
-use mathlib.Core.List.{List, [], _∷_, _++_}
+use mathlib.Core.List.{List, [], _∷_}
 use lib.ListN.{length, getD}
 use lib.Dec.{eqb}
 use Rattle.number.specs.Tests.{pick}

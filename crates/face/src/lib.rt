@@ -5,6 +5,7 @@ ghost use mathlib.Core.Path.{_≡_};
 ghost use lib.ListN.{length};
 ghost use Rattle.values.specs.Readings.{paper};
 ghost use Rattle.path.specs.Replies as path;
+ghost use Rattle.writer.specs.Writer as writer;
 ghost use Rattle.face.specs.Face as spec;
 use number::refusal;
 use number::refusal::Refusal;
@@ -96,7 +97,7 @@ fn of_reading(reading: Reading) -> Nine
 }
 
 fn of_writing(writing: Writing) -> Nine
-    ensures { λ r. ⌜ spec.numbers r ≡ spec.writingPaper writing ⌝ }
+    ensures { λ r. ⌜ spec.numbers r ≡ writer.paper writing ⌝ }
 {
     match writing {
         Writing::Octets(n) => accepted(n, 0),

@@ -4,3 +4,4 @@ pub mod Refusals
 pub mod Runs
 pub mod Kept
 pub mod Prefix
+pub mod OneReply

@@ -10,3 +10,5 @@ pub mod Path
 pub mod Faults
 pub mod Outside
 pub mod Starred
+pub mod Papers
+pub mod OneReply

@@ -1,21 +1,20 @@
 -- One certificate's check as document 01 orders its steps: "IP value, AS value, 13 for IP, 13 for AS, 14 by space, 11, 15". A definition that runs.
-use Prim.Native.Nat.{ℕ, suc, _+_}
-use mathlib.Core.List.{List, [], _∷_, _++_}
+use Prim.Native.Nat.{ℕ}
+use mathlib.Core.List.{List, [], _++_}
 use mathlib.Core.Bool.{Bool, true, false}
 use lib.ListN.{length}
 use lib.Dec.{ltb, eqb}
 use Rattle.number.specs.Tests.{pick}
 use Rattle.number.specs.Halves.{halves}
-use Rattle.number.specs.declared.refusal.Refusal.{Refusal}
 use Rattle.number.specs.declared.refusal.Refusal.the-variants as refusal
 use Rattle.table.specs.Sizes.{maxRows, tableNumbers}
-use Rattle.table.specs.Rows.{Row, rowsOf, withRows, cleared}
+use Rattle.table.specs.Rows.{Row, withRows, cleared}
 use Rattle.der.specs.Parts.{Contents, is, isnt}
 use Rattle.values.specs.Limits.{ipExtension, asExtension, maxOctets}
-use Rattle.values.specs.Faults.{Fault, at}
+use Rattle.values.specs.Faults.{Fault}
 use Rattle.values.specs.Tables.{ipRows, asRows}
 use Rattle.values.specs.declared.readings.Refused.{Refused}
-use Rattle.path.specs.Walk.{Result, covered, missing, Walked, walk, rowsIn}
+use Rattle.path.specs.Walk.{Result, covered, missing, walk, rowsIn}
 use Rattle.path.specs.Inherit.{Spaces, all, lacks, lacking, resolved}
 use Rattle.path.specs.Replies.{faultAt, extensionOf}
 use Rattle.path.specs.declared.replies.Reply.{Reply}

@@ -3,14 +3,14 @@ use Prim.Native.Nat.{ℕ, zero, suc, _+_, _*_, _^_, _≤_, _<_}
 use mathlib.Core.Path.{_≡_}
 use mathlib.Core.List.{List, [], _∷_}
 use mathlib.Core.Bool.{true}
-use lib.ListN.{length, getD, drop}
+use lib.ListN.{length, drop}
 use lib.Dec.{ltb}
 use Rattle.number.specs.Tests.{pick}
 use Rattle.number.specs.declared.refusal.Refusal.{Refusal}
 use Rattle.number.specs.declared.refusal.Refusal.the-variants as refusal
 use Rattle.table.specs.Sizes.{maxRows, tableNumbers}
 use Rattle.table.specs.Rows.{Row, rowsOf, withRows, cleared}
-use Rattle.der.specs.Parts.{Contents, is, isnt}
+use Rattle.der.specs.Parts.{is, isnt}
 use Rattle.path.specs.Bundle.{lengthOf, isValues, frameOf, certificatesIn}
 use Rattle.path.specs.Replies.{faultAt}
 use Rattle.path.specs.Certificate.{Above, anchor, Step, onward, carried, certificate, seenAbove}

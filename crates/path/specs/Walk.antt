@@ -1,7 +1,7 @@
 -- The walk of document 01, "The path", over own and issuer's rows after inheritance: its result and the number of pairs looked at. A definition that runs.
 use Prim.Native.Nat.{ℕ, suc, _+_}
 use mathlib.Core.List.{List, [], _∷_}
-use mathlib.Core.Bool.{Bool, true, false}
+use mathlib.Core.Bool.{Bool, false}
 use lib.Dec.{ltb, leb, eqb}
 use Rattle.number.specs.Tests.{pick}
 use Rattle.number.specs.Halves.{halves}

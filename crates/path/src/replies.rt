@@ -1,6 +1,5 @@
 // The reply of the path check: the rows of the last certificate and the pairs looked at, or a refusal.
 ghost use mathlib.Core.Path.{_≡_};
-ghost use Rattle.number.specs.Halves.{whole};
 ghost use Rattle.path.specs.Replies as spec;
 use number::halves::Halves;
 use number::refusal::Refusal;
@@ -17,7 +16,7 @@ pub enum Reply {
 // Spaces from here on are those of ASIdentifiers.
 pub const AS_SPACES: u64 = 4096;
 
-// Returns the refusal with a place, as certificate `certificate` gives it.
+// Returns a refusal that names no place, space or value, as the certificate gives it.
 pub fn fault(refusal: Refusal, certificate: u64, extension: u64) -> Refused
     ensures { λ r. ⌜ r ≡ spec.faultAt refusal certificate extension 0 0 ⌝ }
 {
@@ -51,7 +50,7 @@ pub fn fault_in(refusal: Refusal, certificate: u64, space: u64, value: Halves) -
     }
 }
 
-// Returns a reader's refusal, as certificate `certificate` gives it.
+// Returns a reader's refusal, as the certificate that has the value gives it.
 pub fn named(fault: Refused, certificate: u64) -> Refused
     ensures { λ r. ⌜ r ≡ spec.named certificate fault ⌝ }
 {

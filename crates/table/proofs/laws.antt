@@ -2,3 +2,4 @@ pub mod Spaces
 pub mod Rows
 pub mod Tables
 pub mod Only
+pub mod OneReply

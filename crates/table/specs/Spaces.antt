@@ -1,6 +1,6 @@
 -- The spaces, their kinds and the widths of their numbers. "Space is AFI × 1024, plus 1 + SAFI if a SAFI is present; AS numbers are 4096, routing domain identifiers 5120."
 use Prim.Native.Nat.{ℕ}
-use mathlib.Core.Bool.{Bool, true, false}
+use mathlib.Core.Bool.{Bool, false}
 use lib.Dec.{leb, eqb}
 use Rattle.number.specs.Tests.{pick}
 use Rattle.number.specs.declared.halves.Width.{Width}

@@ -11,3 +11,5 @@ pub mod Groups
 pub mod Exact
 pub mod Accepted
 pub mod Starred
+pub mod OneReply
+pub mod Papers

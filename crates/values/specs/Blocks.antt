@@ -2,7 +2,7 @@
 use Prim.Native.Nat.{ℕ, _+_, _*_}
 use mathlib.Core.List.{List}
 use lib.ListN.{length, getD}
-use lib.Dec.{ltb, eqb}
+use lib.Dec.{ltb}
 use Rattle.number.specs.Tests.{pick}
 use Rattle.number.specs.declared.refusal.Refusal.the-variants as refusal
 use Rattle.der.specs.Tags.{OCTET-STRING, SEQUENCE}

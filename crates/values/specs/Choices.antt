@@ -1,7 +1,7 @@
 -- Inherit, or at least one element: "NULL (inherit) or a SEQUENCE of at least one element".
 use Prim.Native.Nat.{ℕ}
 use mathlib.Core.List.{List, [], _∷_}
-use lib.ListN.{length, getD}
+use lib.ListN.{getD}
 use lib.Dec.{leb, eqb}
 use Rattle.number.specs.Tests.{pick}
 use Rattle.number.specs.declared.refusal.Refusal.the-variants as refusal

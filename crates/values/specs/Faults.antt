@@ -1,6 +1,5 @@
 -- A refusal and its place, in octets from the start of what was read.
 use Prim.Native.Nat.{ℕ, _+_}
-use mathlib.Core.List.{List}
 use Rattle.number.specs.declared.refusal.Refusal.{Refusal}
 use Rattle.der.specs.Parts.{Contents, is, isnt, Part, part, nopart}
 

@@ -1,6 +1,6 @@
 // IPAddrBlocks: "a SEQUENCE of families" (RFC 3779, section 2.2.3).
 ghost use mathlib.Core.Path.{_≡_};
-ghost use Prim.Native.Nat.{_<_, _≤_};
+ghost use Prim.Native.Nat.{_<_};
 ghost use lib.ListN.{length};
 ghost use Rattle.values.specs.Blocks as spec;
 ghost use Rattle.values.specs.Tables.{blocksRows};

@@ -1,6 +1,5 @@
 // "NULL (inherit) or a SEQUENCE of at least one element".
 ghost use mathlib.Core.Path.{_≡_};
-ghost use lib.ListN.{length};
 ghost use Rattle.table.specs.Rows.{inHalves};
 ghost use Rattle.values.specs.Spaces.{spaceNumber};
 ghost use Rattle.values.specs.Choices as spec;

@@ -1,7 +1,6 @@
 // ASIdentifiers: "[0] AS numbers, then [1] routing domain identifiers, each optional, at least one" (RFC 3779, section 3.2.3).
-ghost use mathlib.Core.Path.{_≡_};
 ghost use lib.ListN.{length};
-ghost use Rattle.values.specs.Limits.{asNumbers, routingDomains, RDI as rdi};
+ghost use Rattle.values.specs.Limits.{routingDomains};
 ghost use Rattle.values.specs.Spaces.{spaceNumber};
 ghost use Rattle.values.specs.Choices.{choiceRows};
 ghost use Rattle.values.specs.Identifiers as spec;

@@ -1,5 +1,5 @@
 -- The loop of `families::size`: the octets behind the heads of the open list are counted. Assumes nothing.
-use mathlib.Core.Path.{_≡_, sym, ap, _∙_}
+use mathlib.Core.Path.{_≡_, sym, ap}
 use mathlib.Core.List.{List, _++_}
 use Prim.Native.Nat.{ℕ, _+_, _-_, _≤_, _<_}
 use native.Mathlib.Omega.{arith}
@@ -9,7 +9,7 @@ use Rattle.table.specs.declared.rows.Row as code
 use Rattle.writer.specs.Families.{Table, none, openHeads, closing, own, onward, families}
 use Rattle.writer.specs.declared.families.Open.{Open}
 use Rattle.writer.proofs.laws.Families.{tail}
-use Rattle.writer.proofs.Passing.{passed, all-few, tail-few, Passed, pass-start, start-tail, pass-end, tail-is, tail-fits, pass-turn}
+use Rattle.writer.proofs.Passing.{passed, all-few, Passed, pass-start, start-tail, pass-end, tail-is, tail-fits, pass-turn}
 
 -- the rows from row k on have a list open, and `size` octets behind its heads
 pub record Counted (kind : ℕ) (t : List ℕ) (k : ℕ) (list : Open) (size : ℕ) : Type 0 where

@@ -2,12 +2,12 @@
 --     frame-..       what stands in a family before the contents of its choice
 --     open-..        the heads of the open list.       closing-..       those that stand behind a row.       own-..       a row's own octets
 use mathlib.Core.Path.{_≡_, refl, sym, ap, _∙_}
-use mathlib.Core.List.{List, [], _++_}
+use mathlib.Core.List.{List, []}
 use mathlib.Core.Bool.{Bool, true, false}
 use Prim.Native.Nat.{ℕ, _+_, _-_, _≤_}
 use native.Mathlib.Omega.{arith}
 use lib.ListN.{length}
-use borrow.Author.Tests.{eq-eqb, ne-eqb}
+use borrow.Author.Tests.{ne-eqb}
 use Rattle.table.specs.Spaces.{kindOf}
 use Rattle.table.specs.Rows.{Row}
 use Rattle.der.specs.Tags.{SEQUENCE, NULL}

@@ -13,12 +13,12 @@ use native.Mathlib.Numerals.{add-one}
 use native.Mathlib.Omega.{arith}
 use lib.ListN.{length, drop, length-append}
 use lib.Dec.{eqb}
-use borrow.Author.Tests.{eqb-true, eqb-false}
+use borrow.Author.Tests.{eqb-false}
 use Rattle.number.specs.Tests.{pick}
 use Rattle.number.specs.Halves.{bits}
 use Rattle.number.specs.declared.halves.Width.the-variants.{Bits32}
 use Rattle.number.proofs.Picks.{below}
-use Rattle.table.specs.Sizes.{rowNumbers, maxRows}
+use Rattle.table.specs.Sizes.{rowNumbers}
 use Rattle.table.specs.Spaces.{mixedKind, ipKind, asKind, between, kindOf, widthOf}
 use Rattle.table.specs.Rows.{Row, seen, inHalves, room, rowAt, rowsOf}
 use Rattle.table.specs.Tables.{Sound, lists, inherits, Tidy, Fitting, Each}
@@ -26,9 +26,8 @@ use Rattle.table.specs.declared.rows.Row as code
 use Rattle.table.proofs.Columns.{row-code}
 use Rattle.table.proofs.Listing.{rows-more}
 use Rattle.table.proofs.laws.Spaces.{kind-as}
-use Rattle.table.proofs.laws.Tables.{TableOf, table-true, first-sound, without}
+use Rattle.table.proofs.laws.Tables.{table-true, first-sound, without}
 use Rattle.values.specs.Encode.{grouped}
-use Rattle.writer.specs.Writer.{bitsFor, Lists}
 use Rattle.writer.specs.Families.{Table, Own, Opened, none, openHeads, closing, own, onward, families}
 use Rattle.writer.specs.declared.families.Open.{Open}
 use Rattle.writer.proofs.laws.Families.{Families, groups, openOf, tail, onto, Owned, no-first, size-tail, open-own, split, owned-turn, tail-turn, open-turn, own-few, groups-more, groups-few}

@@ -1,7 +1,7 @@
 -- Octets written in front of others, and the loop of `families::put`. Assumes nothing.
 --     upto-none, upto-on        nothing, and one part in front of another
 --     Placed      the octets behind the heads of the open list are written.       place-start, place-turn, place-end       before the loop, after a row, after the loop
-use mathlib.Core.Path.{_≡_, refl, sym, ap, _∙_}
+use mathlib.Core.Path.{_≡_, sym, ap, _∙_}
 use mathlib.Core.List.{List, [], _++_}
 use Prim.Native.Nat.{ℕ, _+_, _-_, _≤_, _<_}
 use native.Mathlib.Nat.{add-zero}
@@ -9,7 +9,6 @@ use native.Mathlib.Omega.{arith}
 use lib.ListN.{length, length-append}
 use Rattle.table.specs.Rows.{seen, inHalves, room, rowAt}
 use Rattle.table.specs.declared.rows.Row as code
-use Rattle.der.specs.Written.{written}
 use Rattle.der.proofs.laws.Writing.{length-written, written-none, written-before}
 use Rattle.writer.specs.Families.{Table, Upto, none, openHeads, closing, own, onward, families}
 use Rattle.writer.specs.declared.families.Open.{Open}

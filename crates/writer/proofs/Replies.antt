@@ -2,25 +2,24 @@
 --     encode-is      the value of a table is its families in a SEQUENCE
 --     reply-..       what each exit of `write` gives.       value-..       those of `put_value`
 use mathlib.Core.Path.{_≡_, refl, sym, ap, _∙_}
-use mathlib.Core.List.{List, [], _∷_, _++_}
+use mathlib.Core.List.{List, [], _∷_}
 use mathlib.Core.Bool.{Bool, true, false}
-use Prim.Native.Nat.{ℕ, _+_, _/_, _≤_, _<_}
+use Prim.Native.Nat.{ℕ, _+_, _≤_, _<_}
 use native.Mathlib.Omega.{arith}
-use lib.ListN.{length, length-append}
-use lib.Dec.{eqb, ltb}
+use lib.ListN.{length}
+use lib.Dec.{eqb}
 use borrow.Author.Tests.{lt-ltb, le-ltb, ne-eqb}
 use Rattle.number.specs.Tests.{pick}
 use Rattle.number.specs.declared.refusal.Refusal.the-variants as refusal
-use Rattle.table.specs.Sizes.{rowNumbers}
 use Rattle.table.specs.Spaces.{mixedKind, ipKind}
-use Rattle.table.specs.Rows.{Row, room, rowsOf}
+use Rattle.table.specs.Rows.{room, rowsOf}
 use Rattle.table.specs.Tables.{isTable}
 use Rattle.der.specs.Tags.{SEQUENCE}
 use Rattle.der.specs.Head.{element, headOctets, headSize}
 use Rattle.der.specs.Walk.{all}
 use Rattle.der.specs.Written.{written, headWritten}
 use Rattle.der.proofs.laws.Heads.{head-size, element-size}
-use Rattle.der.proofs.laws.Writing.{length-written, written-on, head-written, element-is}
+use Rattle.der.proofs.laws.Writing.{written-on, head-written, element-is}
 use Rattle.values.specs.Limits.{asExtension}
 use Rattle.values.specs.Choices.{Choice}
 use Rattle.values.specs.Encode.{grouped, familyOctets, memberOctets, groupOctets, encode}

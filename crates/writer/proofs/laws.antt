@@ -1,2 +1,4 @@
 pub mod Groups
 pub mod Families
+pub mod OneReply
+pub mod Papers

@@ -1,5 +1,5 @@
 -- The families of a table's rows, as the writer passes them: from the last row to the first, each row's own octets in front of what was written.
-use Prim.Native.Nat.{ℕ, _+_, _/_, _≤_}
+use Prim.Native.Nat.{ℕ, _+_, _≤_}
 use mathlib.Core.Path.{_≡_}
 use mathlib.Core.List.{List, [], _++_}
 use mathlib.Core.Bool.{Bool, true, false}

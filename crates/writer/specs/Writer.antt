@@ -1,11 +1,12 @@
 -- The writer: reply and output. "Writer: 19, 8 (AS kind without rows), 20." "The writer changes only the octets it reports; a refusal changes none and reports 0."
 use Prim.Native.Nat.{ℕ, _+_, _/_, _^_, _≤_, _<_}
-use mathlib.Core.List.{List}
-use mathlib.Core.Bool.{Bool, true, false}
+use mathlib.Core.List.{List, [], _∷_}
+use mathlib.Core.Bool.{Bool, false}
 use lib.ListN.{length}
 use lib.Dec.{ltb, eqb}
 use Rattle.number.specs.Tests.{pick}
 use Rattle.number.specs.Halves.{halves, bits}
+use Rattle.number.specs.Refusal.{numberOf}
 use Rattle.number.specs.declared.refusal.Refusal.{Refusal}
 use Rattle.number.specs.declared.refusal.Refusal.the-variants as refusal
 use Rattle.table.specs.Sizes.{rowNumbers}
@@ -42,6 +43,11 @@ write kind t out =
     (pick (pick (eqb kind asKind) (eqb (length t / rowNumbers) 0) false) (refusedAs refusal.EmptyList asExtension, out)
     (put (encode kind (rowsOf (length t / rowNumbers) t)) out))
     (refusedAs refusal.NotATable 0, out))
+
+-- a reply in this paper's numbers: number (0 if accepted), certificate, extension, place, space, value in halves, octets, pairs
+abbrev pub paper : Writing → List ℕ
+paper (writing.Octets n) = 0 ∷ 0 ∷ 0 ∷ 0 ∷ 0 ∷ 0 ∷ 0 ∷ n ∷ 0 ∷ []
+paper (writing.Refused f) = numberOf (f .refusal) ∷ f .certificate ∷ f .extension ∷ f .place ∷ f .space ∷ f .value .upper ∷ f .value .lower ∷ 0 ∷ 0 ∷ []
 
 -- WHAT THE CODE'S PARTS SAY
 

@@ -1,6 +1,6 @@
 -- `face::of_writing` meets its contract. Assumes nothing.
 use borrow.Author.Needs.{needs}
-use Rattle.face.specs.Face.{writingPaper}
+use Rattle.writer.specs.Writer.{paper}
 use Rattle.face.proofs.Replying.{case-of}
 use Rattle.face.proofs.of_writing.Statement.{statement}
 use Rattle.face.proofs.of_writing.Tie as tie
@@ -13,5 +13,5 @@ of-writing-spec =
     (λ c κs. search needs)  -- accepted-requires
     (λ c. search needs)  -- enum-known-writing-2
     (λ c κs. search needs)  -- refused-requires
-    (λ c. search (case-of writingPaper, needs))  -- returns
-    (λ c. search (case-of writingPaper, needs)))  -- returns-2
+    (λ c. search (case-of paper, needs))  -- returns
+    (λ c. search (case-of paper, needs)))  -- returns-2

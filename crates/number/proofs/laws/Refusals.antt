@@ -1,7 +1,8 @@
--- No two refusals have one number: the refusal can be had again from its number. Theorems. Assumes nothing.
+-- No two refusals have one number: the refusal can be had again from its number. None has the number 0, which says that nothing was refused. Theorems. Assumes nothing.
 use mathlib.Core.Path.{_≡_, refl, sym, ap, _∙_}
 use mathlib.Core.List.{List, [], _∷_}
 use Prim.Native.Nat.{ℕ, _-_}
+use native.Mathlib.Omega.{arith}
 use lib.ListN.{getD}
 use Rattle.number.specs.Refusal.{numberOf}
 use Rattle.number.specs.declared.refusal.Refusal.{Refusal}
@@ -43,3 +44,7 @@ refusal-back r.OutputShort = refl
 -- one number, one refusal
 pub tells-apart : (a b : Refusal) → numberOf a ≡ numberOf b → a ≡ b
 tells-apart a b e = sym (refusal-back a) ∙ ap refusalOf e ∙ refusal-back b
+
+-- no refusal has the number 0
+pub never-zero : (a : Refusal) → numberOf a ≡ 0 → ⊥
+never-zero a e = let n = ap numberOf (sym (refusal-back a) ∙ ap refusalOf e) in omega arith

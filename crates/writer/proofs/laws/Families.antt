@@ -7,18 +7,18 @@
 use mathlib.Core.Path.{_≡_, refl, sym, ap, _∙_}
 use mathlib.Core.List.{List, [], _∷_, _++_, append-assoc, append-nil}
 use mathlib.Core.Bool.{Bool, true, false}
-use Prim.Native.Nat.{ℕ, _+_, _*_, _^_, _≤_, _<_}
+use Prim.Native.Nat.{ℕ, _+_, _^_, _≤_, _<_}
 use native.Mathlib.Omega.{arith}
 use lib.ListN.{length, length-append}
 use lib.Dec.{eqb}
-use borrow.Author.Tests.{eq-eqb, ne-eqb, eqb-true, eqb-false}
+use borrow.Author.Tests.{ne-eqb, eqb-true, eqb-false}
 use Rattle.number.specs.Tests.{pick}
 use Rattle.number.specs.Halves.{bits}
 use Rattle.table.specs.Spaces.{mixedKind, ipKind, kindOf, widthOf}
 use Rattle.table.specs.Rows.{Row}
 use Rattle.table.proofs.laws.Spaces.{space-above-zero}
 use Rattle.der.specs.Tags.{SEQUENCE, NULL}
-use Rattle.der.specs.Head.{element, headOctets, headSize}
+use Rattle.der.specs.Head.{headOctets, headSize}
 use Rattle.der.specs.Walk.{all}
 use Rattle.der.proofs.laws.Heads.{head-size, element-size}
 use Rattle.der.proofs.laws.Writing.{element-is}
@@ -28,7 +28,7 @@ use Rattle.values.specs.Encode.{elementOctets, spaceFor, before, joined, rowOct
 use Rattle.values.specs.declared.elements.Space.the-variants as space
 use Rattle.values.proofs.laws.Statements.{bitsIn, Fits}
 use Rattle.values.proofs.laws.Elements as elements
-use Rattle.writer.specs.Writer.{elementSize, bitsFor, Lists}
+use Rattle.writer.specs.Writer.{elementSize}
 use Rattle.writer.specs.Families.{frame, none, openHeads, joins, closing, own, onward, Own}
 use Rattle.writer.specs.declared.families.Open.{Open}
 use Rattle.writer.proofs.laws.Groups.{head-few, head-more, heads-few, heads-more, group-is}

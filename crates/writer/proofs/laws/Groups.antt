@@ -2,10 +2,10 @@
 --     group-is      its heads, then its choice
 --     heads-few, head-few      heads are short.       choice-size      a choice by the size of what it lists
 --     group-more    a longer list has a longer family
-use mathlib.Core.Path.{_≡_, refl, sym, ap, _∙_}
-use mathlib.Core.List.{List, [], _∷_, _++_, append-assoc}
+use mathlib.Core.Path.{_≡_, refl, _∙_}
+use mathlib.Core.List.{[], _∷_, _++_, append-assoc}
 use mathlib.Core.Bool.{Bool, true, false}
-use Prim.Native.Nat.{ℕ, suc, _+_, _%_, _/_, _-_, _≤_, _<_}
+use Prim.Native.Nat.{ℕ, _+_, _%_, _/_, _-_, _≤_}
 use native.Mathlib.Omega.{arith}
 use lib.ListN.{length, length-append}
 use lib.Dec.{ltb, eqb}
@@ -14,15 +14,12 @@ use Rattle.number.specs.Tests.{pick}
 use Rattle.table.specs.Spaces.{ipKind}
 use Rattle.der.specs.Tags.{OCTET-STRING, SEQUENCE}
 use Rattle.der.specs.Head.{element, headOctets, headSize}
-use Rattle.der.specs.Walk.{all}
 use Rattle.der.proofs.laws.Heads.{head-size, element-size}
 use Rattle.der.proofs.laws.Writing.{element-is}
 use Rattle.values.specs.Limits.{ASNUM, RDI, asNumbers}
-use Rattle.values.specs.Choices.{Choice, inherit, listed}
-use Rattle.values.specs.Encode.{choiceOctets, elementOctets, spaceOctets, familyOctets, memberOctets, spaceFor, groupOctets, groupHeads}
-use Rattle.values.specs.declared.elements.Space.{Space}
+use Rattle.values.specs.Choices.{Choice}
+use Rattle.values.specs.Encode.{choiceOctets, spaceOctets, familyOctets, memberOctets, spaceFor, groupOctets, groupHeads}
 use Rattle.values.specs.declared.elements.Space.the-variants as space
-use Rattle.writer.specs.Writer.{elementSize}
 
 -- a head of two octets to four
 pub head-few : (n : ℕ) → (2 ≤ headSize n) × (headSize n ≤ 4)

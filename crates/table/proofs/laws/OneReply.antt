@@ -1,0 +1,33 @@
+-- One reply: two replies that a function's promise allows are equal, and so is what they leave in a lent buffer (`Rattle.number.proofs.laws.OneReply`). Theorems. Assumes nothing.
+use denote.Ref.{now}
+use Rattle.number.proofs.laws.OneReply.{OneReply, one-reply}
+use Rattle.table.proofs.rows.get.Reads as get
+use Rattle.table.proofs.rows.put.Reads as put
+use Rattle.table.proofs.rows.clear.Reads as clear
+use Rattle.table.proofs.spaces.kind.Reads as kind
+use Rattle.table.proofs.spaces.width.Reads as width
+use Rattle.table.proofs.tables.is_table.Reads as is-table
+
+-- rows::get
+pub get-one-reply : OneReply get.Post (λ κs r s. r)
+get-one-reply κs a r r′ s s′ p q = one-reply p q
+
+-- rows::put
+pub put-one-reply : OneReply put.Post (λ κs r s. now (s .0))
+put-one-reply κs a r r′ s s′ p q = one-reply p q
+
+-- rows::clear
+pub clear-one-reply : OneReply clear.Post (λ κs r s. now (s .0))
+clear-one-reply κs a r r′ s s′ p q = one-reply p q
+
+-- spaces::kind
+pub kind-one-reply : OneReply kind.Post (λ κs r s. r)
+kind-one-reply κs a r r′ s s′ p q = one-reply p q
+
+-- spaces::width
+pub width-one-reply : OneReply width.Post (λ κs r s. r)
+width-one-reply κs a r r′ s s′ p q = one-reply p q
+
+-- tables::is_table
+pub is-table-one-reply : OneReply is-table.Post (λ κs r s. r)
+is-table-one-reply κs a r r′ s s′ p q = one-reply p q
