@@ -1,5 +1,4 @@
 -- What the code of `bits` and of `integers` finds, in the terms of the definitions. Theorems. Assumes nothing.
---     Copied       the invariant of `sixteen`.      copy-start, copy-turn, copied, copied-all       its places
 --     unit-pos, no-octets, last-zeros     what `ends_in_zeros` finds
 --     none-is      a BIT STRING that is none.       refused-.., taken       what `read` answers at each of its ends
 --     spelt        the number of at most five octets
@@ -9,11 +8,10 @@ use mathlib.Core.Bool.{Bool, true, false}
 use Prim.Native.Nat.{ℕ, suc, _+_, _-_, _*_, _/_, _%_, _^_, _≤_, _<_}
 use native.Mathlib.Omega.{arith}
 use native.Mathlib.Nat.{zero-mod, mod-eq-of-lt}
-use native.Mathlib.Numerals.{add-one}
 use lib.Dec.{ltb, eqb}
-use lib.ListN.{length, take, drop, getD, set, replicate, replicate-append-replicate}
+use lib.ListN.{length, take, drop, getD, replicate, replicate-append-replicate}
 use lib.Pow.{pow-pos, shl-exact, shl-lt}
-use lib.Seq.{take-suc, take-all, append-snoc, length-take-le, set-at}
+use lib.Seq.{take-all}
 use borrow.Author.Tests.{eq-eqb, le-ltb, ltb-false, eqb-true, eqb-false}
 use Rattle.number.specs.Tests.{pick}
 use Rattle.number.specs.Halves.{bits}
@@ -30,42 +28,6 @@ use Rattle.der.specs.declared.integers.Integer.{Integer}
 use Rattle.der.specs.declared.integers.Integer.the-variants.{Is}
 use Rattle.der.proofs.Tails.{octets-drop, octets-zeros, value-end}
 use Rattle.der.proofs.laws.Bits.{Cut, cut-is, cut-bad}
-
--- of sixteen octets the first k are those of s, and the others 0
-pub record Copied (s l : List ℕ) (k : ℕ) : Type 0 where
-  pub fits : k ≤ 16
-  pub inside : k ≤ length s
-  pub is : l ≡ take k s ++ replicate (16 - k) 0
-
--- before the loop: all zeros
-pub copy-start : (s : List ℕ) → Copied s (replicate 16 0) 0
-copy-start s = record { fits = omega arith; inside = omega arith; is = refl }
-
--- one octet more
-pub copy-turn : {s l : List ℕ} {k : ℕ} (v : ℕ) → Copied s l k → k < 16 → k < length s → v ≡ getD s k 0 → Copied s (set l k v) (k + 1)
-copy-turn {s} {l} {k} v h f i e =
-    let z : 16 - k ≡ suc (16 - suc k) = omega arith in
-    let p : l ≡ take k s ++ (0 ∷ replicate (16 - suc k) 0) = rw z at (h .is) in
-    let q : set l k v ≡ take k s ++ (v ∷ replicate (16 - suc k) 0) = rw p (set-at (take k s) 0 (replicate (16 - suc k) 0) v k (length-take-le k s (omega arith))) in
-    record {
-      fits = omega arith;
-      inside = omega arith;
-      is = q ∙ rw (add-one k, take-suc s k 0 i, ← e) (sym (append-snoc (take k s) v (replicate (16 - suc k) 0)));
-    }
-
--- sixteen octets are stored
-pub copied : {s l : List ℕ} {k : ℕ} → Copied s l k → 16 ≤ k → l ≡ take 16 s ++ replicate (16 - length s) 0
-copied {s} {l} {k} h g =
-    let e : k ≡ 16 = omega arith in
-    let z : 16 - length s ≡ 0 = omega (arith, h .inside) in
-    rw z (rw e at (h .is))
-
--- or all that there are
-pub copied-all : {s l : List ℕ} {k : ℕ} → Copied s l k → length s ≤ k → l ≡ take 16 s ++ replicate (16 - length s) 0
-copied-all {s} {l} {k} h g =
-    let e : k ≡ length s = omega (arith, h .inside) in
-    let p : take k s ≡ take 16 s = take-all k s g ∙ sym (take-all 16 s (omega (arith, h .fits))) in
-    rw (← p, ← e) (h .is)
 
 -- one bit, within an octet
 unit-is : (j : ℕ) → j < 8 → 1 * 2 ^ j % 2 ^ 8 ≡ 2 ^ j

@@ -3,6 +3,7 @@ pub mod Places
 pub mod Putting
 pub mod Pasting
 pub mod Tails
+pub mod Padding
 pub mod Beginnings
 pub mod Tagged
 pub mod Held

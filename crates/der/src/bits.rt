@@ -2,7 +2,7 @@
 ghost use mathlib.Core.Path.{_≡_};
 ghost use Prim.Native.Nat.{_+_, _-_, _*_, _/_, _%_, _^_, _<_, _≤_};
 ghost use mathlib.Core.List.{_++_};
-ghost use lib.ListN.{length, getD, take, replicate};
+ghost use lib.ListN.{length, getD, take, drop, replicate};
 ghost use lib.Dec.{eqb};
 ghost use Rattle.number.specs.Octets.{value};
 ghost use Rattle.der.specs.Bits.{noBits, bitStringOf, bitsSize};
@@ -21,17 +21,69 @@ pub struct BitString {
     pub address: Address,
 }
 
+fn wide(x: u8) -> u64
+    ensures { λ r. ⌜ (r ≡ x) × (r < 256) ⌝ }
+{
+    x as u64
+}
+
+// Octet k of s, 0 past its end.
+fn octet_or_zero(s: &[u8], k: usize) -> u64
+    ensures { λ r. ⌜ (r ≡ getD (now (s .entry)) k 0) × (r < 256) ⌝ }
+{
+    if k < s.len() {
+        return wide(s[k]);
+    }
+    0
+}
+
+// The number that the first eight octets of s spell, zeros where it has fewer.
+fn padded(s: &[u8]) -> u64
+    ensures { λ r. ⌜ r ≡ value (take 8 (now (s .entry)) ++ replicate (8 - length (now (s .entry))) 0) ⌝ }
+{
+    let mut n: u64 = 0;
+    let mut k: usize = 0;
+    while k < 8 {
+        n = n * 256 + octet_or_zero(s, k);
+        k += 1;
+    }
+    n
+}
+
+// The same. Eight octets at fixed places are one read.
+fn upper(s: &[u8]) -> u64
+    ensures { λ r. ⌜ r ≡ value (take 8 (now (s .entry)) ++ replicate (8 - length (now (s .entry))) 0) ⌝ }
+{
+    if 8 <= s.len() {
+        return address::spelled(&s[0..8]);
+    }
+    padded(s)
+}
+
+// The number that the next eight octets of s spell, zeros where it has fewer.
+fn lower(s: &[u8]) -> u64
+    ensures { λ r. ⌜ r ≡ value (take 8 (drop 8 (now (s .entry))) ++ replicate (8 - length (drop 8 (now (s .entry)))) 0) ⌝ }
+{
+    if s.len() <= 8 {
+        return 0;
+    }
+    if 16 <= s.len() {
+        return address::spelled(&s[8..16]);
+    }
+    padded(&s[8..])
+}
+
 // The first sixteen octets of s, zeros where it has fewer.
+// By two numbers and not octet by octet: a copy of so many octets as s has is a call.
 fn sixteen(s: &[u8]) -> [u8; 16]
     ensures { λ r. ⌜ r ≡ take 16 (now (s .entry)) ++ replicate (16 - length (now (s .entry))) 0 ⌝ }
 {
-    let mut octets = [0u8; 16];
-    let mut k: usize = 0;
-    while k < 16 && k < s.len() {
-        octets[k] = s[k];
-        k += 1;
-    }
-    octets
+    let both = Halves {
+        upper: upper(s),
+        lower: lower(s),
+    };
+    let address = address::from_halves(Width::Bits128, both);
+    address.octets
 }
 
 // Whether the last `unused` bits of the octets are zeros.
@@ -72,6 +124,11 @@ pub fn read(width: Width, contents: &[u8]) -> BitString
     if 16 < octets.len() {
         return none(width);
     }
+    // Before the tests that are left: what stands behind many tests is compiled as seldom reached.
+    let address = Address {
+        width: width,
+        octets: sixteen(octets),
+    };
     let all = 8 * (octets.len() as u32);
     if all < unused as u32 {
         return none(width);
@@ -81,10 +138,6 @@ pub fn read(width: Width, contents: &[u8]) -> BitString
         return none(width);
     }
     if ends_in_zeros(octets, unused) {
-        let address = Address {
-            width: width,
-            octets: sixteen(octets),
-        };
         return BitString {
             read: true,
             count: count,

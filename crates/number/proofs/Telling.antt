@@ -1,5 +1,5 @@
--- What `tell` finds, in the terms of `shapeOf`. Theorems. Assumes nothing.
-use mathlib.Core.Path.{_≡_, ap, ap₂, _∙_}
+-- What `is_prefix` and `tell` find, in the terms of `isPrefix` and `shapeOf`. Theorems. Assumes nothing.
+use mathlib.Core.Path.{_≡_, sym, ap, _∙_}
 use mathlib.Core.Bool.{Bool, true, false}
 use Prim.Native.Nat.{ℕ, _+_, _-_, _^_, _<_, _≤_}
 use native.Mathlib.Omega.{arith}
@@ -30,8 +30,21 @@ module _ {z o : ℕ} (w x y : ℕ) (e : z ≡ run 0 w x) (g : o ≡ run 1 w y) w
   unfolding free
   free-ones-fewer h = omega arith
 
--- the calls of `tell`, in their order: both numbers, the width, the bits that are free
-module _ {from to : Halves} {f a : ℕ} (w x y : ℕ) (p : from ≡ halves x) (q : to ≡ halves y) (b : a ≡ w) (h : f ≡ free w (whole from) (whole to)) where
+-- the calls of `is_prefix`, in their order: the width, the bits that are free, low with ones for them
+module _ {f a : ℕ} (w x y : ℕ) (b : a ≡ w) (h : f ≡ free w x y) where
+  -- they fit the width
+  pub free-fits : f ≤ a
+  free-fits = omega (arith, free-le w x y)
+
+  -- the test that `isPrefix` makes
+  pub test-is : {s : Bool} {filled : Halves} → filled ≡ halves (oneFilled w (a - f) x) → s ≡ eqb y (whole filled) → s ≡ isPrefix w x y
+  unfolding isPrefix
+  test-is {s} {filled} k t =
+      let n : whole filled ≡ x + (2 ^ free w x y - 1) = ap whole k ∙ whole-halves (oneFilled w (a - f) x) ∙ rw (b, h) (filled-free w x y) in
+      t ∙ ap (eqb y) n
+
+-- the calls of `tell`, in their order: both numbers, whether they are a prefix
+module _ {from to : Halves} {s : Bool} (w x y : ℕ) (p : from ≡ halves x) (q : to ≡ halves y) (t : s ≡ isPrefix w (whole from) (whole to)) where
   -- low's number
   from-is : whole from ≡ x
   from-is = ap whole p ∙ whole-halves x
@@ -40,28 +53,17 @@ module _ {from to : Halves} {f a : ℕ} (w x y : ℕ) (p : from ≡ halves x) (q
   to-is : whole to ≡ y
   to-is = ap whole q ∙ whole-halves y
 
-  -- the bits that are free
-  free-is : f ≡ free w x y
-  free-is = h ∙ ap₂ (free w) from-is to-is
+  -- a prefix, by the bits that are free
+  pub tell-prefix : {f a : ℕ} → s ≡ true → a ≡ w → f ≡ free w (whole from) (whole to) → Prefix (a - f) ≡ shapeOf w x y
+  unfolding shapeOf
+  tell-prefix {f} {a} v b h =
+      let i : isPrefix w x y ≡ true = rw (from-is, to-is) at (sym t ∙ v) in
+      let g : f ≡ free w x y = rw (from-is, to-is) at h in
+      rw (i, b, g)
 
-  -- they fit the width
-  pub free-fits : f ≤ a
-  free-fits = omega (arith, free-is, free-le w x y)
-
-  module _ {s : Bool} {filled : Halves} (k : filled ≡ halves (oneFilled w (a - f) (whole from))) (t : s ≡ eqb (whole to) (whole filled)) where
-    -- the test that `shapeOf` makes
-    test-is : s ≡ isPrefix w x y
-    unfolding isPrefix
-    test-is =
-        let n : whole filled ≡ x + (2 ^ free w x y - 1) = ap whole k ∙ whole-halves (oneFilled w (a - f) (whole from)) ∙ rw (b, free-is, from-is) (filled-free w x y) in
-        t ∙ ap₂ eqb to-is n
-
-    -- it held: a prefix
-    pub tell-prefix : s ≡ true → Prefix (a - f) ≡ shapeOf w x y
-    unfolding shapeOf
-    tell-prefix v = rw (← test-is, v, b, free-is)
-
-    -- it failed: a range
-    pub tell-range : s ≡ false → Range ≡ shapeOf w x y
-    unfolding shapeOf
-    tell-range v = rw (← test-is, v)
+  -- a range
+  pub tell-range : s ≡ false → Range ≡ shapeOf w x y
+  unfolding shapeOf
+  tell-range v =
+      let i : isPrefix w x y ≡ false = rw (from-is, to-is) at (sym t ∙ v) in
+      rw i

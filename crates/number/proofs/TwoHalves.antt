@@ -1,7 +1,8 @@
 -- Numbers in two halves of 64 bits: compared, stepped, and put together again. Theorems. Assumes nothing.
---     eq-, lt-, le-lower and -upper    the lower halves decide where the upper ones are equal, else the upper ones do
+--     eq-, lt-, le-lower and -upper, lt-less, lt-more      the lower halves decide where the upper ones are equal, else the upper ones do
 --     halves-whole, whole-halves       two halves and their number, both ways
 --     next-below                       a number that is not the last one has its successor after it
+--     apart-, past-                    more than 1 past, in 64 bits and in two halves
 use Prim.Native.Nat.{ℕ, _+_, _-_, _*_, _/_, _%_, _<_, _≤_, _^_}
 use mathlib.Core.Path.{_≡_, refl, sym, ap, ap₂, _∙_}
 use mathlib.Core.Bool.{Bool, true, false}
@@ -33,12 +34,15 @@ module _ (h l g m : ℕ) where
   pub le-lower : h ≡ g → leb l m ≡ leb (h * 2 ^ 64 + l) (g * 2 ^ 64 + m)
   le-lower e = agree _ _ (λ t. omega (arith, tests)) (λ t. omega (arith, tests))
 
+  pub lt-less : h < g → l < 2 ^ 64 → true ≡ ltb (h * 2 ^ 64 + l) (g * 2 ^ 64 + m)
+  lt-less e p = sym (lt-ltb (h * 2 ^ 64 + l) (g * 2 ^ 64 + m) (omega arith))
+
+  pub lt-more : g ≤ h → (h ≡ g → ⊥) → m < 2 ^ 64 → false ≡ ltb (h * 2 ^ 64 + l) (g * 2 ^ 64 + m)
+  lt-more e n q = sym (le-ltb (h * 2 ^ 64 + l) (g * 2 ^ 64 + m) (omega arith))
+
   module _ (n : h ≡ g → ⊥) (p : l < 2 ^ 64) (q : m < 2 ^ 64) where
     pub eq-upper : false ≡ eqb (h * 2 ^ 64 + l) (g * 2 ^ 64 + m)
     eq-upper = sym (ne-eqb (h * 2 ^ 64 + l) (g * 2 ^ 64 + m) (λ (e : h * 2 ^ 64 + l ≡ g * 2 ^ 64 + m). n (omega arith)))
-
-    pub lt-upper : ltb h g ≡ ltb (h * 2 ^ 64 + l) (g * 2 ^ 64 + m)
-    lt-upper = agree _ _ (λ t. omega (arith, tests)) (λ t. omega (arith, tests))
 
     pub le-upper : ltb h g ≡ leb (h * 2 ^ 64 + l) (g * 2 ^ 64 + m)
     le-upper = agree _ _ (λ t. omega (arith, tests)) (λ t. omega (arith, tests))
@@ -96,12 +100,25 @@ module _ (a : Halves) where
 pub next-below : (n m : ℕ) → n < m → m < 2 ^ 128 → next n ≡ n + 1
 next-below n m p q = sym (next-more n (λ (e : n ≡ 2 ^ 128 - 1). not-le-of-lt q (rw e at p)))
 
--- more than 1 past
-module _ (h l : Halves) (t : Bool) (e : t ≡ ltb (whole h) (whole l)) where
-  pub past-next : (n : Halves) (r : Bool) → t ≡ true → n ≡ halves (next (whole h)) → r ≡ ltb (whole n) (whole l) → l .upper < 2 ^ 64 → l .lower < 2 ^ 64 → r ≡ ltb (whole h + 1) (whole l)
-  past-next n r y i d p q =
-      let b : next (whole h) ≡ whole h + 1 = next-below (whole h) (whole l) (ltb-true _ _ (sym e ∙ y)) (whole-below (l .upper) (l .lower) p q) in
-      d ∙ rw (i, whole-halves (next (whole h)), b)
+-- more than 1 past, in 64 bits
+pub apart-some : (a b : ℕ) → a < b → ltb 1 (b - a) ≡ ltb (a + 1) b
+apart-some a b h = agree _ _ (λ t. omega (arith, tests)) (λ t. omega (arith, tests))
 
-  pub past-not : t ≡ false → false ≡ ltb (whole h + 1) (whole l)
-  past-not y = let b : whole l ≤ whole h = ltb-false _ _ (sym e ∙ y) in sym (le-ltb (whole h + 1) (whole l) (omega arith))
+pub apart-none : (a b : ℕ) → b ≤ a → false ≡ ltb (a + 1) b
+apart-none a b h = sym (le-ltb (a + 1) b (omega arith))
+
+-- more than 1 past, in halves: by the lower ones where the upper ones are equal
+module _ (h l g m : ℕ) where
+  pub past-lower : {r : Bool} → h ≡ g → r ≡ ltb (l + 1) m → r ≡ ltb (h * 2 ^ 64 + l + 1) (g * 2 ^ 64 + m)
+  past-lower {r} e i = i ∙ agree _ _ (λ t. omega (arith, tests)) (λ t. omega (arith, tests))
+
+  -- else by the upper ones, if something lies between them
+  module _ (n : h ≡ g → ⊥) (p : l < 2 ^ 64) (q : m < 2 ^ 64) where
+    pub past-upper : l < 18446744073709551615 → ltb h g ≡ ltb (h * 2 ^ 64 + l + 1) (g * 2 ^ 64 + m)
+    past-upper s = agree _ _ (λ t. omega (arith, tests)) (λ t. omega (arith, tests))
+
+    pub past-some : 0 < m → ltb h g ≡ ltb (h * 2 ^ 64 + l + 1) (g * 2 ^ 64 + m)
+    past-some s = agree _ _ (λ t. omega (arith, tests)) (λ t. omega (arith, tests))
+
+    pub past-full : {r : Bool} → 18446744073709551615 ≤ l → m ≤ 0 → r ≡ ltb (h + 1) g → r ≡ ltb (h * 2 ^ 64 + l + 1) (g * 2 ^ 64 + m)
+    past-full {r} s z i = i ∙ agree _ _ (λ t. omega (arith, tests)) (λ t. omega (arith, tests))

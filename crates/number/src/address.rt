@@ -1,7 +1,7 @@
 // An address between the octets of a BIT STRING and the halves of a row (document 01: "its width and its sixteen octets, unused ones zero").
 ghost use mathlib.Core.Path.{_≡_};
-ghost use Prim.Native.Nat.{_+_, _*_, _/_, _%_, _^_, _<_, _≤_};
-ghost use lib.ListN.{length, take, drop};
+ghost use Prim.Native.Nat.{_+_, _*_, _/_, _%_, _^_, _<_};
+ghost use lib.ListN.{take};
 ghost use Rattle.number.specs.Halves.{whole, halves, bits as bitsOf};
 ghost use Rattle.number.specs.Octets.{value, octetAt};
 ghost use Rattle.number.specs.Address.{addressOf, numberOf};

@@ -71,20 +71,28 @@ fn cut(n: Halves, j: u32) -> Halves
     Halves { upper: 0, lower: 0 }
 }
 
-// 2 ^ j - 1: j ones.
-fn ones_of(j: u32) -> Halves
+// x with ones for its last j bits.
+fn half_filled(x: u64, j: u32) -> u64
+    requires { ⌜ j < 64 ⌝ }
+    ensures { λ r. ⌜ r ≡ x / 2 ^ j * 2 ^ j + (2 ^ j - 1) ⌝ }
+{
+    half_cut(x, j) + ((1u64 << j) - 1)
+}
+
+// n with ones for its last j bits.
+fn filled(n: Halves, j: u32) -> Halves
     requires { ⌜ j ≤ 128 ⌝ }
-    ensures { λ r. ⌜ r ≡ halves (2 ^ j - 1) ⌝ }
+    ensures { λ r. ⌜ r ≡ halves (whole n / 2 ^ j * 2 ^ j + (2 ^ j - 1)) ⌝ }
 {
     if j < 64 {
         return Halves {
-            upper: 0,
-            lower: (1u64 << j) - 1,
+            upper: n.upper,
+            lower: half_filled(n.lower, j),
         };
     }
     if j < 128 {
         return Halves {
-            upper: (1u64 << (j - 64)) - 1,
+            upper: half_filled(n.upper, j - 64),
             lower: u64::MAX,
         };
     }
@@ -113,13 +121,7 @@ pub fn zero_filled(width: Width, kept: u32, n: Halves) -> Halves
 pub fn one_filled(width: Width, kept: u32, n: Halves) -> Halves
     ensures { λ r. ⌜ r ≡ halves (spec.oneFilled (bitsOf width) kept (whole n)) ⌝ }
 {
-    let j = lost(width, kept);
-    let first = cut(n, j);
-    let rest = ones_of(j);
-    Halves {
-        upper: first.upper + rest.upper,
-        lower: first.lower + rest.lower,
-    }
+    filled(n, lost(width, kept))
 }
 
 // Returns how many bits of min are kept: all but its trailing zeros.

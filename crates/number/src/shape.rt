@@ -25,6 +25,14 @@ fn free(width: Width, low: Halves, high: Halves) -> u32
     if zeros < ones { zeros } else { ones }
 }
 
+// Returns whether the numbers from low to high are a prefix.
+pub fn is_prefix(width: Width, low: Halves, high: Halves) -> bool
+    ensures { λ r. ⌜ r ≡ spec.isPrefix (bitsOf width) (whole low) (whole high) ⌝ }
+{
+    let count = halves::bits(width) - free(width, low, high);
+    halves::same(high, kept::one_filled(width, count, low))
+}
+
 // Returns the prefix that the addresses from low to high are, or that they are none. Both are read at the width of low.
 pub fn tell(low: Address, high: Address) -> Shape
     ensures { λ r. ⌜ r ≡ spec.shapeOf (bitsOf (low .width)) (numberOf low) (numberOf high) ⌝ }
@@ -32,9 +40,8 @@ pub fn tell(low: Address, high: Address) -> Shape
     let width = low.width;
     let from = address::to_halves(low);
     let to = address::to_halves(high);
-    let count = halves::bits(width) - free(width, from, to);
-    if halves::same(to, kept::one_filled(width, count, from)) {
-        return Shape::Prefix(count);
+    if is_prefix(width, from, to) {
+        return Shape::Prefix(halves::bits(width) - free(width, from, to));
     }
     Shape::Range
 }

@@ -6,3 +6,4 @@ pub mod Certificate
 pub mod Paths
 pub mod Demand
 pub mod Starred
+pub mod Papers

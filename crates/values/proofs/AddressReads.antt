@@ -14,16 +14,11 @@ use Rattle.number.specs.Halves.{whole, halves, bits}
 use Rattle.number.specs.Octets.{Octets}
 use Rattle.number.specs.Address.{addressOf, numberOf}
 use Rattle.number.specs.Kept.{keptMin, keptMax, oneFilled}
-use Rattle.number.specs.Shape.{isPrefix, shapeOf}
-use Rattle.number.specs.declared.address.Address.{Address}
+use Rattle.number.specs.Shape.{isPrefix}
 use Rattle.number.specs.declared.halves.Halves.{Halves}
 use Rattle.number.specs.declared.halves.Width.{Width}
-use Rattle.number.specs.declared.shape.Shape.{Shape}
-use Rattle.number.specs.declared.shape.Shape.the-variants as shape
 use Rattle.number.specs.declared.refusal.Refusal.{Refusal}
 use Rattle.number.specs.declared.refusal.Refusal.the-variants as refusal
-use Rattle.number.proofs.Cuts.{fill-below}
-use Rattle.number.proofs.Picks.{pick-not, pick-is}
 use Rattle.number.proofs.Sixteen.{width-octets}
 use Rattle.number.proofs.TwoHalves.{halves-whole, whole-halves}
 use Rattle.number.proofs.laws.Address.{address-back}
@@ -191,16 +186,6 @@ module _ {r : BitsAt} (w : ℕ) (s : List ℕ) (p : bitsSeen s r ≡ bitsAt w s)
           let b = bits-is w _ g l m y j e in
           record { told = join-both (bitsAt w) (λ x. bitsAt w) s (n, whole x) k (a .ends) (m, whole y) j (b .ends) o; min = a .below; max = b .below }
 
--- what `tell` says of a prefix
-shape-prefix : (w x y n : ℕ) → shapeOf w x y ≡ shape.Prefix n → isPrefix w x y ≡ true
-unfolding shapeOf
-shape-prefix w x y n e = pick-is (isPrefix w x y) _ _ shape.Range (λ q. let z : _≡_ {A = ℕ} 0 1 = cc in omega arith) e .0
-
--- and of none
-shape-range : (w x y : ℕ) → shapeOf w x y ≡ shape.Range → isPrefix w x y ≡ false
-unfolding shapeOf
-shape-range w x y e = pick-not (isPrefix w x y) _ _ _ (λ q. let z : _≡_ {A = ℕ} 0 1 = cc in omega arith) e .0
-
 -- the ends of `range_row`: high is max with ones after its bits
 module _ {v : Width} {high : Halves} {t : Bool} (a n : ℕ) (low : Halves) (m : ℕ) (max : Halves) (e : v ≡ widthOf a) (p : high ≡ halves (oneFilled (bits v) m (whole max)))
     (b : t ≡ ltb (whole low) (whole high)) where
@@ -233,29 +218,25 @@ module _ {v : Width} {high : Halves} {t : Bool} (a n : ℕ) (low : Halves) (m : 
       unfolding ranged
       ranged-max j = rw (below-is h, min-is, ne-eqb m (keptMax (across a) (oneFilled (across a) m (whole max))) (rw (d, high-is, e) at j))
 
-      module _ {x y : Address} {s : Shape} (j : m ≡ l) (f : x ≡ addressOf v (whole low)) (g : y ≡ addressOf v (whole high))
-          (q : s ≡ shapeOf (bits (x .width)) (numberOf x) (numberOf y)) (fit : whole low < 2 ^ across a) (fits : whole max < 2 ^ across a) where
+      module _ {s : Bool} (j : m ≡ l) (q : s ≡ isPrefix (bits v) (whole low) (whole high)) where
         -- the test of max
         max-is : eqb m (keptMax (across a) (oneFilled (across a) m (whole max))) ≡ true
         max-is = eq-eqb _ _ (rw (d, high-is, e) at j)
 
-        -- the shape of the numbers from low to high
-        shape-is : s ≡ shapeOf (across a) (whole low) (oneFilled (across a) m (whole max))
-        unfolding oneFilled
-        shape-is =
-            let i : whole high < 2 ^ across a = rw high-is (fill-below (across a) (across a - m) (whole max) (omega arith) fits) in
-            q ∙ rw (f, g, e, address-is (widthOf a) (whole low) fit, address-is (widthOf a) (whole high) i, high-is)
+        -- the test of the shape
+        shape-is : {u : Bool} → s ≡ u → isPrefix (across a) (whole low) (oneFilled (across a) m (whole max)) ≡ u
+        shape-is o = rw (e, high-is) at (sym q ∙ o)
 
         -- a prefix is no range
-        pub ranged-prefix : (j : ℕ) → s ≡ shape.Prefix j → row.No ≡ rangedSeen a (rangeOf a n low m max)
+        pub ranged-prefix : s ≡ true → row.No ≡ rangedSeen a (rangeOf a n low m max)
         unfolding ranged
-        ranged-prefix j o = rw (below-is h, min-is, max-is, shape-prefix (across a) _ _ j (sym shape-is ∙ o))
+        ranged-prefix o = rw (below-is h, min-is, max-is, shape-is o)
 
         -- a range
-        pub ranged-row : s ≡ shape.Range → low .lower < 2 ^ 64 → row.Is (record { space = a; inherit = 0; low = low; high = high }) ≡ rangedSeen a (rangeOf a n low m max)
+        pub ranged-row : s ≡ false → low .lower < 2 ^ 64 → row.Is (record { space = a; inherit = 0; low = low; high = high }) ≡ rangedSeen a (rangeOf a n low m max)
         unfolding ranged
         ranged-row o z =
-            rw (below-is h, min-is, max-is, shape-range (across a) _ _ (sym shape-is ∙ o))
+            rw (below-is h, min-is, max-is, shape-is o)
             (ap row.Is (row-made a (whole low) (oneFilled (across a) m (whole max)) (halves-whole low z) (rw e at p)))
 
 -- what `range_row` answered: none
@@ -295,14 +276,6 @@ module _ {o : Opening} (a : ℕ) (s : List ℕ) (p : o ≡ openingOf SEQUENCE s)
       range-is : Took (rangeAt (across a) s) s ((n, whole x), (m, whole y)) e
       unfolding rangeAt
       range-is = tag-took SEQUENCE s p k e q (λ k c. moved k (boundsOf (across a) c)) _ (ap (moved k) (sym (rw (h, d) at g)))
-
-      -- min fits the space
-      pub range-min : whole x < 2 ^ across a
-      range-min = (rw (h, d) at i) .0
-
-      -- and max
-      pub range-max : whole y < 2 ^ across a
-      range-max = (rw (h, d) at i) .1
 
       module _ {r : Ranged} (u : r ≡ rangedSeen a (rangeOf a n x m y)) where
         -- they are not the one form of a range

@@ -1,14 +1,12 @@
 // IPAddressOrRange: "a BIT STRING (prefix) or a SEQUENCE of two (range)" (RFC 3779, sections 2.2.3.7 to 2.2.3.9).
 // Each function reads the element that s begins with; places count from the start of s.
 ghost use mathlib.Core.Path.{_≡_};
-ghost use Prim.Native.Nat.{_<_, _^_};
 ghost use lib.ListN.{length};
 ghost use Rattle.number.specs.Halves.{whole, bits as bitsOf};
 ghost use Rattle.number.specs.Kept.{oneFilled};
 ghost use Rattle.table.specs.Rows.{inHalves};
 ghost use Rattle.table.specs.Spaces.{widthOf};
-ghost use Rattle.der.specs.Parts.{sifted};
-ghost use Rattle.values.specs.Forms.{ranged, spanOf};
+ghost use Rattle.values.specs.Forms.{ranged};
 ghost use Rattle.values.specs.Addresses as spec;
 ghost use Rattle.values.specs.Choices.{listedRow};
 ghost use Rattle.values.specs.Seen.{bitsSeen, BitsIn, boundsSeen, BoundsIn, rangedSeen, foundSeen, FoundIn};
@@ -23,7 +21,6 @@ use number::halves::Width;
 use number::kept;
 use number::refusal::Refusal;
 use number::shape;
-use number::shape::Shape;
 use table::rows::Row;
 use table::spaces;
 
@@ -114,7 +111,6 @@ pub enum Ranged {
 
 // "min must be below max"; min keeps no trailing zero, max no trailing one but the kept one; "a range that is a prefix must be written as a prefix".
 fn range_row(space: u64, n: u32, low: Halves, m: u32, max: Halves) -> Ranged
-    requires { ⌜ (whole low < 2 ^ bitsOf (widthOf space)) × (whole max < 2 ^ bitsOf (widthOf space)) ⌝ }
     ensures { λ r. ⌜ r ≡ rangedSeen space (ranged (bitsOf (widthOf space)) n (whole low) m (oneFilled (bitsOf (widthOf space)) m (whole max))) ⌝ }
 {
     let width = spaces::width(space);
@@ -128,21 +124,16 @@ fn range_row(space: u64, n: u32, low: Halves, m: u32, max: Halves) -> Ranged
     if m != kept::kept_max(width, high) {
         return Ranged::No;
     }
-    match shape::tell(
-        address::from_halves(width, low),
-        address::from_halves(width, high),
-    ) {
-        Shape::Prefix(_) => Ranged::No,
-        Shape::Range => {
-            let row = Row {
-                space: space,
-                inherit: 0,
-                low: low,
-                high: high,
-            };
-            Ranged::Is(row)
-        }
+    if shape::is_prefix(width, low, high) {
+        return Ranged::No;
     }
+    let row = Row {
+        space: space,
+        inherit: 0,
+        low: low,
+        high: high,
+    };
+    Ranged::Is(row)
 }
 
 fn range_at(space: u64, s: &[u8]) -> Found

@@ -19,6 +19,7 @@ use Rattle.number.proofs.kept.one_filled.Reads as one-filled
 use Rattle.number.proofs.kept.kept_min.Reads as kept-min
 use Rattle.number.proofs.kept.kept_max.Reads as kept-max
 use Rattle.number.proofs.refusal.number.Reads as number
+use Rattle.number.proofs.shape.is_prefix.Reads as is-prefix
 use Rattle.number.proofs.shape.tell.Reads as tell
 
 -- two replies to the same arguments that the promise allows have the same result and leave the same
@@ -92,6 +93,10 @@ kept-max-one-reply κs a r r′ s s′ p q = one-reply p q
 -- refusal::number
 pub number-one-reply : OneReply number.Post (λ κs r s. r)
 number-one-reply κs a r r′ s s′ p q = one-reply p q
+
+-- shape::is_prefix
+pub is-prefix-one-reply : OneReply is-prefix.Post (λ κs r s. r)
+is-prefix-one-reply κs a r r′ s s′ p q = one-reply p q
 
 -- shape::tell
 pub tell-one-reply : OneReply tell.Post (λ κs r s. r)

@@ -19,6 +19,7 @@ read-spec =
     (λ c. search needs)  -- part-octets-end
     (λ c κs. search needs)  -- none-requires-3
     (λ c. search (refused-long, needs))  -- returns-3
+    (λ c κs. search needs)  -- sixteen-requires
     (λ c. search needs)  -- cast-all
     (λ c. search needs)  -- mul-all
     (λ c. search needs)  -- cast-if4
@@ -30,22 +31,21 @@ read-spec =
     (λ c κs. search needs)  -- none-requires-5
     (λ c. search (refused-wide, needs))  -- returns-5
     (λ c κs. search needs)  -- ends-in-zeros-requires
-    (λ c κs. search needs)  -- sixteen-requires
     (λ c.
-    let f = c .before .before .before in
+    let f = c .before .before in
     let e = f .before .before in
-    let a = e .before .before .before .before in
+    let a = e .before .before .before .before .before in
     taken
     (a .before .before .before .args .contents .now)
     (λ k. omega (arith, a .shared-slice-known2 .given k))
     (a .before .before .before .args .width)
     (a .before .if1 .left)
-    (e .before .before .before .if2 .left)
+    (e .before .before .before .before .if2 .left)
     (e .if4 .left)
     (f .before .bits .ensures)
     (f .if5 .left)
-    (c .before .before .ends-in-zeros .ensures)
-    (c .before .if6 .taken)
-    (c .sixteen .ensures))  -- returns-6
+    (c .before .ends-in-zeros .ensures)
+    (c .if6 .taken)
+    (e .before .sixteen .ensures))  -- returns-6
     (λ c κs. search needs)  -- none-requires-6
     (λ c. search (refused-set, needs)))  -- returns-7

@@ -2,7 +2,7 @@
 use borrow.Author.Needs.{needs}
 use Rattle.values.proofs.Joins.{refused, tag-order, tag-inside}
 use Rattle.values.proofs.RowReads.{rowed}
-use Rattle.values.proofs.AddressReads.{range-refused, range-isnt, range-fits, range-min, range-max, range-none, range-took}
+use Rattle.values.proofs.AddressReads.{range-refused, range-isnt, range-fits, range-none, range-took}
 use Rattle.values.proofs.addresses.range_at.Statement.{statement}
 use Rattle.values.proofs.addresses.range_at.Tie as tie
 
@@ -21,7 +21,7 @@ range-at-spec =
     (λ c. search needs)  -- enum-known-refusal-2
     (λ c. search (range-fits, needs))  -- add-t22
     (λ c. search needs)  -- enum-known-n
-    (λ c κs. search (range-min, range-max, needs))  -- range-row-requires
+    (λ c κs. search needs)  -- range-row-requires
     (λ c. search needs)  -- enum-told
     (λ c. search needs)  -- enum-known-row
     (λ c. refused (search (range-refused, needs)))  -- returns

@@ -18,15 +18,11 @@ range-row-spec =
     (λ c. search (ranged-min, not-false, needs))  -- returns-2
     (λ c κs. search needs)  -- kept-max-requires
     (λ c. search (ranged-max, not-false, needs))  -- returns-3
-    (λ c κs. search needs)  -- from-halves-requires
-    (λ c κs. search needs)  -- from-halves-requires-2
-    (λ c κs. search needs)  -- tell-requires
-    (λ c. search needs)  -- enum-told
-    (λ c. search needs)  -- enum-told-2
+    (λ c κs. search needs)  -- is-prefix-requires
     (λ c. search (ranged-prefix, not-false, needs))  -- returns-4
     (λ c.
-    let f = c .before .before .before .before in
-    let k = f .before .before in
+    let f = c .before .before in
+    let k = f .before in
     let m = k .before .before in
     let b = m .before .before in
     let s = b .before .before .before in
@@ -38,11 +34,7 @@ range-row-spec =
     (m .kept-min .ensures)
     (k .before .if2 .left)
     (k .kept-max .ensures)
-    (f .before .if3 .left)
-    (f .from-halves .ensures)
-    (c .before .before .before .from-halves2 .ensures)
-    (c .before .before .tell .ensures)
-    (s .pre .0)
-    (s .pre .1)
-    (c .enum-told2 .given .1)
+    (f .if3 .left)
+    (c .before .is-prefix .ensures)
+    (c .if4 .left)
     (omega (arith, s .good))))  -- returns-5
