@@ -17,6 +17,11 @@ mod report;
 mod sides;
 mod timing;
 
+/// The C functions, as the Rust binding declares them. Not all are used here.
+#[allow(dead_code)]
+#[path = "../bindings/rust/src/sys.rs"]
+mod sys;
+
 /// The plain implementation, and numbers that look like chance. Not all of both is used here.
 #[allow(dead_code, unused_imports)]
 #[path = "../tests"]

@@ -1,48 +1,7 @@
 //! The library: the functions of `include/rch.h`, with slices for pointers and lengths.
 
+use crate::sys::{rch_path, rch_read_as, rch_read_ip, rch_write};
 use crate::tests::plain::Extension;
-
-#[link(name = "face", kind = "static")]
-extern "C" {
-    fn rch_read_ip(
-        value: *const u8,
-        value_len: usize,
-        table: *mut u64,
-        table_len: usize,
-        reply: *mut u64,
-        reply_len: usize,
-    ) -> u64;
-
-    fn rch_read_as(
-        value: *const u8,
-        value_len: usize,
-        table: *mut u64,
-        table_len: usize,
-        reply: *mut u64,
-        reply_len: usize,
-    ) -> u64;
-
-    fn rch_write(
-        kind: u64,
-        rows: *const u64,
-        rows_len: usize,
-        out: *mut u8,
-        out_len: usize,
-        reply: *mut u64,
-        reply_len: usize,
-    ) -> u64;
-
-    fn rch_path(
-        bundle: *const u8,
-        bundle_len: usize,
-        first: *mut u64,
-        first_len: usize,
-        second: *mut u64,
-        second_len: usize,
-        reply: *mut u64,
-        reply_len: usize,
-    ) -> u64;
-}
 
 pub fn read(extension: Extension, value: &[u8], table: &mut [u64], reply: &mut [u64]) -> u64 {
     let reader = match extension {

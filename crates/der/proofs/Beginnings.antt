@@ -21,12 +21,12 @@ use Rattle.number.specs.declared.halves.Width.{Width}
 use Rattle.number.specs.declared.address.Address.{Address}
 use Rattle.number.proofs.Picks.{rest-of}
 use Rattle.number.proofs.Sixteen.{width-octets}
-use Rattle.number.proofs.laws.Octets.{value-below}
+use Rattle.number.proofs.laws.Octets.{value-below, octets-drop}
 use Rattle.der.specs.Bits.{bad, cut, readBits, noBits, addressed, bitStringOf}
 use Rattle.der.specs.declared.bits.BitString.{BitString}
 use Rattle.der.specs.declared.integers.Integer.{Integer}
 use Rattle.der.specs.declared.integers.Integer.the-variants.{Is}
-use Rattle.der.proofs.Tails.{octets-drop, octets-zeros, value-end}
+use Rattle.der.proofs.Tails.{octets-zeros, value-end}
 use Rattle.der.proofs.laws.Bits.{Cut, cut-is, cut-bad}
 
 -- one bit, within an octet

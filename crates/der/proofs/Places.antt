@@ -2,7 +2,7 @@
 --     element-past, element-rest    what `element_at` finds past the end of the value, and in the octets from the place on
 --     element-start                 at the start it is the value's own element
 use mathlib.Core.Path.{_≡_, refl}
-use mathlib.Core.List.{List, []}
+use mathlib.Core.List.{List}
 use Prim.Native.Nat.{ℕ, _-_, _<_}
 use native.Mathlib.Omega.{arith}
 use lib.ListN.{length, take, drop, drop-of-length-le}

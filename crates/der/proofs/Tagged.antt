@@ -3,7 +3,7 @@
 use mathlib.Core.Path.{_≡_, refl, sym, ap, _∙_}
 use mathlib.Core.List.{List}
 use mathlib.Core.Bool.{Bool, true, false}
-use Prim.Native.Nat.{ℕ, _+_, _-_, _*_, _≤_}
+use Prim.Native.Nat.{ℕ, _+_, _-_, _*_}
 use native.Mathlib.Omega.{arith}
 use lib.ListN.{length, getD, take, drop, length-take, length-drop}
 use lib.Dec.{ltb, eqb}
@@ -11,12 +11,12 @@ use Rattle.number.proofs.Picks.{pick-not, pick-is}
 use Rattle.number.specs.Tests.{pick}
 use Rattle.number.specs.declared.refusal.Refusal.{Refusal}
 use Rattle.number.specs.declared.refusal.Refusal.the-variants as refusal
-use Rattle.der.specs.Head.{Head, found, fault, head}
+use Rattle.der.specs.Head.{found, fault, head}
 use Rattle.der.specs.Opening.{faulty, fitted, lengthOf, openingOf, seen}
-use Rattle.der.specs.Parts.{Contents, Part, part, nopart, closed, opened, tagged}
+use Rattle.der.specs.Parts.{Contents, nopart, closed, opened, tagged}
 use Rattle.der.specs.declared.heads.Opening.{Opening}
 use Rattle.der.specs.declared.heads.Opening.the-variants.{Is, Bad}
-use Rattle.der.proofs.laws.Heads.{length-head, opening-opens}
+use Rattle.der.proofs.laws.Heads.{length-head, not-is, opening-opens}
 
 -- a length that is refused is refusal 2
 module _ (r : Refusal) where
@@ -52,9 +52,6 @@ module _ (r : Refusal) where
       go false true z = or-fault (ltb (length s) 3) _ (or-fault (ltb (getD s 2 0) 0x80) _ (fitted-bad (length s) 3 (getD s 2 0)))
       go false false true = or-fault (ltb (length s) 4) _ (or-fault (ltb (getD s 2 0 * 256 + getD s 3 0) 256) _ (fitted-bad (length s) 4 (getD s 2 0 * 256 + getD s 3 0)))
       go false false false = element-fault
-
-not-is : {r : Refusal} {k e : ℕ} → Bad r ≡ Is k e → ⊥
-not-is h = let z : _≡_ {A = ℕ} 0 1 = cc in omega arith
 
 module _ {X E : Type 0} (bad : Refusal → E) (t : ℕ) (inner : ℕ → List ℕ → Contents X E) (s : List ℕ) where
   pub tagged-bad : (r : Refusal) → openingOf t s ≡ Bad r → tagged bad t inner s ≡ nopart (bad r)

@@ -1,18 +1,19 @@
 -- Octets with zeros after them, the first and the last of them, and the last bits of octets. Theorems. Assumes nothing.
---     octets-append, octets-drop, octets-left, octets-right      octets in parts
---     octets-parts     the octets of a number in two parts.        first-octets, last-octets      those of an address
+--     octets-append, octets-right      octets in parts
+--     octets-parts     the octets of a number in two parts.        sixteen-parts, first-octets, last-octets       those of an address
 --     octets-zeros     the octets of a number with as many zeros after it
 --     value-end        the last bits of a number are those of its last octet
 use mathlib.Core.Path.{_≡_, refl, sym, ap, ap₂, _∙_}
 use mathlib.Core.List.{List, [], _∷_, _++_, append-assoc}
 use Prim.Native.Nat.{ℕ, zero, suc, _+_, _-_, _*_, _/_, _%_, _^_, _≤_, _<_}
 use native.Mathlib.Omega.{arith}
-use native.Mathlib.Nat.{mul-add-mod-self-right, mod-lt, mod-eq-of-lt, lt-of-lt-of-le, zero-add, suc-add}
+use native.Mathlib.Nat.{mod-lt, mod-eq-of-lt, lt-of-lt-of-le, zero-add, suc-add}
 use lib.ListN.{length, getD, take, drop, replicate, length-append, length-replicate}
 use lib.Pow.{pow-pos, pow-mono, shr-shr, field, mod-mod-pow}
-use lib.Seq.{getD-drop, take-at, drop-at}
+use lib.Seq.{take-at, drop-at}
 use Rattle.number.specs.Octets.{Octets, value, octets}
 use Rattle.number.specs.Address.{sixteen}
+use Rattle.number.proofs.Sixteen.{low-mod}
 use Rattle.number.proofs.laws.Octets.{octets-length, octets-tail, value-octets, value-append}
 
 -- two lists of octets
@@ -22,19 +23,7 @@ octets-append [] t b d k = d k
 octets-append (x ∷ s) t b d zero = b 0
 octets-append (x ∷ s) t b d (suc k) = octets-append s t (octets-tail x s b) d k
 
--- without the first ones
-pub octets-drop : (n : ℕ) (s : List ℕ) → Octets s → Octets (drop n s)
-unfolding Octets
-octets-drop n s b k = rw getD-drop (b (n + k))
-
--- the first of two parts
-pub octets-left : (s t : List ℕ) → Octets (s ++ t) → Octets s
-unfolding Octets
-octets-left [] t b k = omega arith
-octets-left (x ∷ s) t b zero = b zero
-octets-left (x ∷ s) t b (suc k) = octets-left s t (octets-tail x (s ++ t) b) k
-
--- the second
+-- the second of two parts
 pub octets-right : (s t : List ℕ) → Octets (s ++ t) → Octets t
 octets-right [] t b = b
 octets-right (x ∷ s) t b = octets-right s t (octets-tail x (s ++ t) b)
@@ -71,7 +60,7 @@ octets-parts (suc j) k n h =
 
 -- the octets of an address of w bits, in two parts and the zeros after them
 module _ (w j k x : ℕ) (e : w ≡ 8 * (j + k)) where
-  sixteen-parts : x < 2 ^ w → sixteen w x ≡ octets j (x / 2 ^ (8 * k)) ++ (octets k (x % 2 ^ (8 * k)) ++ replicate (16 - (j + k)) 0)
+  pub sixteen-parts : x < 2 ^ w → sixteen w x ≡ octets j (x / 2 ^ (8 * k)) ++ (octets k (x % 2 ^ (8 * k)) ++ replicate (16 - (j + k)) 0)
   unfolding sixteen
   sixteen-parts b =
       let f : w / 8 ≡ j + k = omega arith in
@@ -88,13 +77,7 @@ module _ (w j k x : ℕ) (e : w ≡ 8 * (j + k)) where
       rw (sixteen-parts l, mod-eq-of-lt b, drop-at (octets j (x / 2 ^ (8 * k))) (octets k x ++ replicate (16 - (j + k)) 0) j (octets-length j (x / 2 ^ (8 * k))))
       (take-at (octets k x) (replicate (16 - (j + k)) 0) k (octets-length k x))
 
--- the last bits, in a number of two parts
-low-mod : (k b u l : ℕ) → b ≤ k → (u * 2 ^ k + l) % 2 ^ b ≡ l % 2 ^ b
-low-mod k b u l h =
-    let e : k ≡ (k - b) + b = omega arith in
-    sym (mod-mod-pow (u * 2 ^ k + l) (k - b) b) ∙ rw (← e, mul-add-mod-self-right u (2 ^ k) l) (rw (← e) at (mod-mod-pow l (k - b) b))
-
--- so the last bits of octets are those of the last one
+-- the last bits of octets are those of the last one
 pub value-end : (x : ℕ) (s : List ℕ) (u : ℕ) → u ≤ 8 → value (x ∷ s) % 2 ^ u ≡ getD (x ∷ s) (length s) 0 % 2 ^ u
 value-end x [] u h = ap (λ (y : ℕ). y % 2 ^ u) (omega arith)
 value-end x (y ∷ s) u h = low-mod (8 * suc (length s)) u x (value (y ∷ s)) (omega arith) ∙ value-end y s u h

@@ -5,3 +5,4 @@ pub mod Walks
 pub mod Parts
 pub mod Writing
 pub mod OneReply
+pub mod Papers

@@ -8,3 +8,4 @@ pub mod Strings
 pub mod Written
 pub mod Walk
 pub mod Parts
+pub mod Papers

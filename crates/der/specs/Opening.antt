@@ -1,6 +1,6 @@
 -- What the code says of an element: where its contents start and where they end. `seen` is what `head` says of it (proofs/laws/Heads: `opening-head`).
 use Prim.Native.Nat.{ℕ, _+_, _-_, _*_}
-use mathlib.Core.List.{List, []}
+use mathlib.Core.List.{List}
 use lib.ListN.{length, getD, take, drop}
 use lib.Dec.{ltb, eqb}
 use Rattle.number.specs.Tests.{pick}

@@ -84,6 +84,3 @@ abbrev pub filled : {X E : Type 0} → E → Contents (List X) E → Contents (L
 filled none (isnt e) = isnt e
 filled none (is []) = isnt none
 filled none (is (x ∷ xs)) = is (x ∷ xs)
-
-unfoldable pub someOf : {X S E : Type 0} → E → (S → List ℕ → Step X S E) → S → List ℕ → Contents (List X) E
-someOf none step σ c = filled none (listOf step σ c)

@@ -1,7 +1,6 @@
 // The head of an element: its tag, then its definite and minimal length (X.690, sections 8.1.3 and 10.1).
 ghost use mathlib.Core.Path.{_≡_};
 ghost use Prim.Native.Nat.{_≤_, _<_};
-ghost use lib.ListN.{length};
 ghost use Rattle.der.specs.Opening.{fitted, lengthOf, openingOf};
 ghost use Rattle.der.specs.Head.{headSize};
 ghost use Rattle.der.specs.Written.{headWritten};

@@ -7,14 +7,16 @@ use lib.ListN.{length, set}
 use borrow.Author.Tests.{lt-ltb, le-ltb, eq-eqb, ne-eqb}
 use Rattle.table.proofs.Runs.{stored}
 use Rattle.values.specs.Limits.{ipExtension, asExtension}
-use Rattle.values.specs.Readings.{paper, readIp, readAs, readBoth}
+use Rattle.values.specs.Readings.{readIp, readAs, readBoth}
+use Rattle.values.specs.Papers.{paper}
 use Rattle.values.specs.Parted.{hasOctets}
 use Rattle.values.specs.declared.readings.Refused.{Refused}
 use Rattle.values.specs.declared.readings.Reading.{Reading}
 use Rattle.values.specs.declared.readings.Reading.the-variants as reading
-use Rattle.writer.specs.Writer as writer
+use Rattle.writer.specs.Writer.{write}
+use Rattle.writer.specs.Papers as writer
 use Rattle.writer.specs.declared.Writing.{Writing}
-use Rattle.path.specs.Replies as replies
+use Rattle.path.specs.Papers as replies
 use Rattle.path.specs.Paths as path
 use Rattle.path.specs.declared.replies.Reply.{Reply}
 use Rattle.face.specs.Face.{nine, partOf, parted, told, tooShort, given, readIpFace, readAsFace, writeFace, pathFace, faultFace, numbers}
@@ -78,7 +80,7 @@ module _ (r : ℕ) (reply : List ℕ) (h : length reply < nine) (e : r ≡ tooSh
 
   pub write-short : (kind : ℕ) (rows out : List ℕ) → _≡_ {A = ℕ × List ℕ × List ℕ} (r, out, reply) (writeFace kind rows out reply)
   unfolding writeFace
-  write-short kind rows out = short-by r (writer.paper (writer.write kind rows out .0)) out (writer.write kind rows out .1) reply h e
+  write-short kind rows out = short-by r (writer.paper (write kind rows out .0)) out (write kind rows out .1) reply h e
 
   pub path-short : (b first second : List ℕ) → _≡_ {A = ℕ × (List ℕ × List ℕ) × List ℕ} (r, (first, second), reply) (pathFace b first second reply)
   unfolding pathFace
@@ -97,9 +99,9 @@ module _ (r : ℕ) (n : Nine) (reply reply′ : List ℕ) (h : nine ≤ length r
   unfolding readAsFace
   as-told v t t′ x i j = answer-by paper (readAs v t) x t t′ r n reply reply′ h i j e
 
-  pub write-told : (kind : ℕ) (rows out out′ : List ℕ) (x : Writing) → _≡_ {A = Writing × List ℕ} (x, out′) (writer.write kind rows out) → numbers n ≡ writer.paper x → _≡_ {A = ℕ × List ℕ × List ℕ} (r, out′, reply′) (writeFace kind rows out reply)
+  pub write-told : (kind : ℕ) (rows out out′ : List ℕ) (x : Writing) → _≡_ {A = Writing × List ℕ} (x, out′) (write kind rows out) → numbers n ≡ writer.paper x → _≡_ {A = ℕ × List ℕ × List ℕ} (r, out′, reply′) (writeFace kind rows out reply)
   unfolding writeFace
-  write-told kind rows out out′ x i j = answer-by writer.paper (writer.write kind rows out) x out out′ r n reply reply′ h i j e
+  write-told kind rows out out′ x i j = answer-by writer.paper (write kind rows out) x out out′ r n reply reply′ h i j e
 
   pub path-told : (b first second first′ second′ : List ℕ) (x : Reply) → _≡_ {A = path.Left} (x, first′, second′) (path.check b first second) → numbers n ≡ replies.paper x
       → _≡_ {A = ℕ × (List ℕ × List ℕ) × List ℕ} (r, (first′, second′), reply′) (pathFace b first second reply)

@@ -7,25 +7,19 @@ use Rattle.number.specs.Tests.{pick}
 use Rattle.number.specs.Refusal.{numberOf}
 use Rattle.number.specs.declared.refusal.Refusal.the-variants as refusal
 use Rattle.values.specs.Limits.{ipExtension, asExtension}
-use Rattle.values.specs.Readings.{paper, readIp, readAs, readBoth}
+use Rattle.values.specs.Readings.{readIp, readAs, readBoth}
+use Rattle.values.specs.Papers.{paper}
 use Rattle.values.specs.Parted.{chosen}
-use Rattle.values.specs.declared.readings.Refused.{Refused}
 use Rattle.values.specs.declared.readings.Reading.{Reading}
-use Rattle.writer.specs.Writer as writer
-use Rattle.path.specs.Replies as path
+use Rattle.writer.specs.Writer.{write}
+use Rattle.writer.specs.Papers as writer
+use Rattle.path.specs.Papers as path
 use Rattle.path.specs.Paths.{check}
 use Rattle.face.specs.declared.Nine.{Nine}
 
 -- how many numbers a reply has
 abbrev pub nine : ℕ
 nine = 9
-
--- a refusal, and an acceptance
-abbrev pub refused : Refused → List ℕ
-refused f = numberOf (f .refusal) ∷ f .certificate ∷ f .extension ∷ f .place ∷ f .space ∷ f .value .upper ∷ f .value .lower ∷ 0 ∷ 0 ∷ []
-
-abbrev pub accepted : ℕ → ℕ → List ℕ
-accepted rows pairs = 0 ∷ 0 ∷ 0 ∷ 0 ∷ 0 ∷ 0 ∷ 0 ∷ rows ∷ pairs ∷ []
 
 -- "the value at fault (1 IP, 2 AS), the start and the end of the part", "1, 0, 0 for the empty part at the start of the IP value"; of values of so many octets
 abbrev pub partOf : ℕ → ℕ → Reading → ℕ × ℕ × ℕ
@@ -54,7 +48,7 @@ unfoldable pub readAsFace : List ℕ → List ℕ → List ℕ → ℕ × List �
 readAsFace v t reply = given (paper (readAs v t .0)) t (readAs v t .1) reply
 
 unfoldable pub writeFace : ℕ → List ℕ → List ℕ → List ℕ → ℕ × List ℕ × List ℕ
-writeFace kind rows out reply = given (writer.paper (writer.write kind rows out .0)) out (writer.write kind rows out .1) reply
+writeFace kind rows out reply = given (writer.paper (write kind rows out .0)) out (write kind rows out .1) reply
 
 unfoldable pub pathFace : List ℕ → List ℕ → List ℕ → List ℕ → ℕ × (List ℕ × List ℕ) × List ℕ
 pathFace b first second reply = given (path.paper (check b first second .0)) (first, second) (check b first second .1, check b first second .2) reply

@@ -3,9 +3,9 @@
 ghost use Prim.Native.Nat.{_≤_};
 ghost use mathlib.Core.Path.{_≡_};
 ghost use lib.ListN.{length};
-ghost use Rattle.values.specs.Readings.{paper};
-ghost use Rattle.path.specs.Replies as path;
-ghost use Rattle.writer.specs.Writer as writer;
+ghost use Rattle.values.specs.Papers as values;
+ghost use Rattle.path.specs.Papers as path;
+ghost use Rattle.writer.specs.Papers as writer;
 ghost use Rattle.face.specs.Face as spec;
 use number::refusal;
 use number::refusal::Refusal;
@@ -36,7 +36,7 @@ struct Nine {
 
 // Writes the nine numbers at the start of a run. Returns the first of them.
 fn put(reply: &mut [u64], nine: Nine) -> u64
-    requires { ⌜ 9 ≤ length (now reply) ⌝ }
+    requires { ⌜ spec.nine ≤ length (now reply) ⌝ }
     ensures { λ r. ⌜ (r, now (reply .exit)) ≡ spec.told (spec.numbers nine) (now (reply .entry)) ⌝ }
 {
     reply[0] = nine.number;
@@ -53,7 +53,7 @@ fn put(reply: &mut [u64], nine: Nine) -> u64
 
 // A refusal "reports 0 rows", and 0 pairs.
 fn refused(fault: Refused) -> Nine
-    ensures { λ r. ⌜ spec.numbers r ≡ spec.refused fault ⌝ }
+    ensures { λ r. ⌜ spec.numbers r ≡ values.refused fault ⌝ }
 {
     let refusal = fault.refusal;
     let value = fault.value;
@@ -72,7 +72,7 @@ fn refused(fault: Refused) -> Nine
 
 // "On acceptance certificate, extension and place are 0 everywhere."
 fn accepted(rows: usize, pairs: usize) -> Nine
-    ensures { λ r. ⌜ spec.numbers r ≡ spec.accepted rows pairs ⌝ }
+    ensures { λ r. ⌜ spec.numbers r ≡ values.accepted rows pairs ⌝ }
 {
     Nine {
         number: 0,
@@ -88,7 +88,7 @@ fn accepted(rows: usize, pairs: usize) -> Nine
 }
 
 fn of_reading(reading: Reading) -> Nine
-    ensures { λ r. ⌜ spec.numbers r ≡ paper reading ⌝ }
+    ensures { λ r. ⌜ spec.numbers r ≡ values.paper reading ⌝ }
 {
     match reading {
         Reading::Rows(n) => accepted(n, 0),
@@ -133,7 +133,7 @@ fn with_part(nine: Nine, which: u64, start: usize, end: usize) -> Nine
 
 // The reading of one certificate's two values, with the octets at fault: of which value, from where to where.
 fn of_fault(reading: Reading, ip: usize, ids: usize) -> Nine
-    ensures { λ r. ⌜ spec.numbers r ≡ spec.parted (paper reading) (spec.partOf ip ids reading) ⌝ }
+    ensures { λ r. ⌜ spec.numbers r ≡ spec.parted (values.paper reading) (spec.partOf ip ids reading) ⌝ }
 {
     let nine = of_reading(reading);
     match reading {

@@ -58,7 +58,7 @@ fn power(k: u32) -> Halves {
             lower: 0,
         };
     }
-    Halves { upper: 0, lower: 0 }
+    halves::ZERO
 }
 
 // The number before n, and of 0 the last number of 128 bits.

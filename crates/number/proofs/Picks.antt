@@ -2,16 +2,16 @@
 --     picks    a case of `pick` that was picked, by the test's fact
 --     via      the same where the test is on a number that a call gave
 --     pick-not, pick-is    the other way: which test a result came through
-use mathlib.Core.Path.{_≡_, refl, sym, ap, _∙_}
-use mathlib.Core.List.{List, [], _∷_, _++_}
+use mathlib.Core.Path.{_≡_, refl, sym, _∙_}
+use mathlib.Core.List.{List}
 use mathlib.Core.Bool.{Bool, true, false}
 use mathlib.Core.Logic.{_⊎_, inl, inr}
-use Prim.Native.Nat.{ℕ, zero, suc, _+_, _-_, _≤_, _<_}
-use native.Mathlib.Nat.{le-of-eq, zero-add, suc-add}
+use Prim.Native.Nat.{ℕ, _-_, _≤_, _<_}
+use native.Mathlib.Nat.{le-of-eq}
 use native.Mathlib.Omega.{arith}
-use lib.ListN.{length, take, drop, getD, length-drop}
+use lib.ListN.{length, take, drop, length-drop}
 use lib.Dec.{ltb, leb, eqb}
-use lib.Seq.{take-all, take-nil, drop-drop, getD-drop}
+use lib.Seq.{take-all}
 use borrow.Author.Tests.{ltb-true, ltb-false, le-ltb, lt-ltb, le-leb, lt-leb, eq-eqb, ne-eqb}
 use Rattle.number.specs.Tests.{pick}
 
@@ -80,9 +80,3 @@ pick-is false r a z never e = absurd (never e)
 -- `&s[k..]` is `take (length s - k) (drop k s)`
 pub rest-of : {A : Type 0} (k : ℕ) (l : List A) → take (length l - k) (drop k l) ≡ drop k l
 rest-of k l = take-all (length l - k) (drop k l) (le-of-eq (length-drop k l))
-
--- what is left of a part after k of it
-pub drop-take : {A : Type 0} (k m : ℕ) (l : List A) → drop k (take (k + m) l) ≡ take m (drop k l)
-drop-take zero m l = simp zero-add
-drop-take (suc k) m [] = simp (suc-add, take-nil)
-drop-take (suc k) m (x ∷ l) = simp suc-add (drop-take k m l)

@@ -1,20 +1,21 @@
 -- The sixteen octets of an address, one by one: once for every width that is a whole number of octets. Theorems. Assumes nothing.
 --     width-octets     both widths are such
 --     sixteen-at       octet k of the sixteen is `octetAt`
---     octet-none, octet-lower, octet-upper      an octet of a number in two halves: what the code computes
+--     octet-lower, octet-upper      an octet of 128 bits in two halves: what the code computes
+--     first-short, first-long, first-sixteen       the bits of a width as the first of 128
 --     Stored       what holds of the octets that a loop has stored.        none-stored, one-stored, all-stored     before it, after one more, at the end
 use mathlib.Core.Path.{_≡_, refl, sym, ap, subst, _∙_}
 use mathlib.Core.List.{List, _++_}
 use mathlib.Core.Logic.{_⊎_, inl, inr}
 use Prim.Native.Nat.{ℕ, zero, suc, _+_, _-_, _*_, _/_, _%_, _^_, _≤_, _<_}
-use native.Mathlib.Nat.{mod-lt, mul-add-mod-self-right}
+use native.Mathlib.Nat.{mod-lt, mod-eq-of-lt, add-zero, mul-one, mul-assoc, mul-add-mod-self-right}
 use native.Mathlib.Omega.{arith}
 use borrow.Author.Count.{below-more}
 use borrow.Author.Tests.{le-ltb, lt-ltb}
-use lib.Pow.{pow-pos, high, field, shr-mod, shr-shr, mod-mod-pow}
+use lib.Pow.{pow-pos, pow-add, high, field, shr-mod, shr-shr, shl-shr, mod-mod-pow}
 use lib.ListN.{length, set, getD, replicate, length-append, length-set, length-replicate, List·getD-append}
 use lib.Seq.{getD-append-add, getD-set-same, getD-set-other, ext-getD}
-use Rattle.number.specs.Halves.{bits}
+use Rattle.number.specs.Halves.{whole, bits}
 use Rattle.number.specs.Octets.{octets, octetAt}
 use Rattle.number.specs.Address.{sixteen, addressOf}
 use Rattle.number.specs.declared.address.Address.{Address}
@@ -94,7 +95,7 @@ unfolding sixteen
 sixteen-length w n h = simp (length-append, octets-length, length-replicate) (omega arith)
 
 -- the low bits, in a number of two parts
-low-mod : (k b u l : ℕ) → b ≤ k → (u * 2 ^ k + l) % 2 ^ b ≡ l % 2 ^ b
+pub low-mod : (k b u l : ℕ) → b ≤ k → (u * 2 ^ k + l) % 2 ^ b ≡ l % 2 ^ b
 low-mod k b u l h =
     let e : k ≡ (k - b) + b = omega arith in
     sym (mod-mod-pow (u * 2 ^ k + l) (k - b) b) ∙ rw (← e, mul-add-mod-self-right u (2 ^ k) l) (rw (← e) at (mod-mod-pow l (k - b) b))
@@ -108,46 +109,91 @@ octet-high k u l s b h =
     let e : s ≡ k + (s - k) = omega arith in
     ap (λ (x : ℕ). (u * 2 ^ k + l) / 2 ^ x % 2 ^ 8) e ∙ ap (λ (x : ℕ). x % 2 ^ 8) (sym (shr-shr (u * 2 ^ k + l) k (s - k)) ∙ ap (λ (x : ℕ). x / 2 ^ (s - k)) (high u k b))
 
--- x the number of bits of the width, as a call gave it; n the number's two halves
-module _ (width : Width) (x u l k : ℕ) (e : x ≡ bits width) where
-  -- past the width
-  pub octet-none : x < 8 * k + 8 → 0 ≡ octetAt (bits width) (u * 2 ^ 64 + l) k
-  octet-none h = sym (past (bits width) (u * 2 ^ 64 + l) k (omega arith))
-
-  -- the shift in the upper half
-  pub shift-fits : x - (8 * k + 8) - 64 < 64
-  shift-fits = omega (arith, width-octets width)
-
+-- an octet of 128 bits in two halves
+module _ (u l k : ℕ) (f : k < 16) where
   -- in the lower half
-  pub octet-lower : {r : ℕ} → 8 * k + 8 ≤ x → x - (8 * k + 8) < 64 → r ≡ l / 2 ^ (x - (8 * k + 8)) % 2 ^ 8 → r ≡ octetAt (bits width) (u * 2 ^ 64 + l) k
-  octet-lower h s p = p ∙ sym (octet-low 64 u l (x - (8 * k + 8)) (omega (arith, width-octets width))) ∙ rw e (sym (within (bits width) (u * 2 ^ 64 + l) k (omega arith)))
+  pub octet-lower : {r : ℕ} → 120 - 8 * k < 64 → r ≡ l / 2 ^ (120 - 8 * k) % 2 ^ 8 → r ≡ octetAt 128 (u * 2 ^ 64 + l) k
+  octet-lower s p =
+      let e : 120 - 8 * k ≡ 128 - (8 * k + 8) = omega arith in
+      p ∙ sym (octet-low 64 u l (120 - 8 * k) (omega arith)) ∙ rw e (sym (within 128 (u * 2 ^ 64 + l) k (omega arith)))
 
   -- in the upper half
-  pub octet-upper : {r : ℕ} → 8 * k + 8 ≤ x → 64 ≤ x - (8 * k + 8) → l < 2 ^ 64 → r ≡ u / 2 ^ (x - (8 * k + 8) - 64) % 2 ^ 8 → r ≡ octetAt (bits width) (u * 2 ^ 64 + l) k
-  octet-upper h s b p = p ∙ sym (octet-high 64 u l (x - (8 * k + 8)) b s) ∙ rw e (sym (within (bits width) (u * 2 ^ 64 + l) k (omega arith)))
+  pub octet-upper : {r : ℕ} → 64 ≤ 120 - 8 * k → l < 2 ^ 64 → r ≡ u / 2 ^ (120 - 8 * k - 64) % 2 ^ 8 → r ≡ octetAt 128 (u * 2 ^ 64 + l) k
+  octet-upper s b p =
+      let e : 120 - 8 * k ≡ 128 - (8 * k + 8) = omega arith in
+      p ∙ sym (octet-high 64 u l (120 - 8 * k) b s) ∙ rw e (sym (within 128 (u * 2 ^ 64 + l) k (omega arith)))
 
--- the loop's invariant: of the sixteen octets of an address those before k are stored
-pub record Stored (width : Width) (n : ℕ) (l : List ℕ) (k : ℕ) : Type 0 where
+-- the last bits of a number as the first of 128
+module _ {v : Width} (u l : ℕ) where
+  pub first-short : v ≡ Bits32 → whole (record { upper = l % 4294967296 * 2 ^ 32 % 2 ^ 64; lower = 0 }) ≡ (u * 2 ^ 64 + l) % 2 ^ bits v * 2 ^ (128 - bits v)
+  first-short e =
+      let b : l % 2 ^ 32 * 2 ^ 32 < 2 ^ 64 = omega (arith, mod-lt l (pow-pos 32)) in
+      rw (e, mod-eq-of-lt b, low-mod 64 32 u l (omega arith)) (add-zero (l % 2 ^ 32 * 2 ^ 32 * 2 ^ 64) ∙ mul-assoc (l % 2 ^ 32) (2 ^ 32) (2 ^ 64))
+
+  pub first-long : v ≡ Bits128 → u * 2 ^ 64 + l < 2 ^ 128 → u * 2 ^ 64 + l ≡ (u * 2 ^ 64 + l) % 2 ^ bits v * 2 ^ (128 - bits v)
+  first-long e h = rw (e, mod-eq-of-lt h) (sym (mul-one (u * 2 ^ 64 + l)))
+
+-- they have the octets of the number at that width
+module _ (w n k : ℕ) (d : w % 8 ≡ 0) (h : w ≤ 128) (f : k < 16) where
+  first-at : octetAt 128 (n % 2 ^ w * 2 ^ (128 - w)) k ≡ octetAt w n k
+  first-at = go (below w (8 * k + 8))
+    where
+      go : (w < 8 * k + 8) ⊎ (8 * k + 8 ≤ w) → octetAt 128 (n % 2 ^ w * 2 ^ (128 - w)) k ≡ octetAt w n k
+      go (inl b) =
+          let j : ℕ = 128 - (8 * k + 8) in
+          let c : ℕ = (8 * k) - w in
+          let e : 128 - w ≡ (c + 8) + j = omega arith in
+          let g : n % 2 ^ w * 2 ^ (128 - w) ≡ n % 2 ^ w * 2 ^ c * 2 ^ 8 * 2 ^ j =
+          ap (λ (y : ℕ). n % 2 ^ w * 2 ^ y) e
+          ∙ ap (λ (y : ℕ). n % 2 ^ w * y) (pow-add 2 (c + 8) j ∙ ap (λ (y : ℕ). y * 2 ^ j) (pow-add 2 c 8))
+          ∙ sym (mul-assoc (n % 2 ^ w) (2 ^ c * 2 ^ 8) (2 ^ j))
+          ∙ ap (λ (y : ℕ). y * 2 ^ j) (sym (mul-assoc (n % 2 ^ w) (2 ^ c) (2 ^ 8))) in
+          within 128 (n % 2 ^ w * 2 ^ (128 - w)) k (omega arith)
+          ∙ ap (λ (y : ℕ). y / 2 ^ j % 2 ^ 8) g
+          ∙ ap (λ (y : ℕ). y % 2 ^ 8) (shl-shr (n % 2 ^ w * 2 ^ c * 2 ^ 8) j)
+          ∙ omega arith
+          ∙ sym (past w n k b)
+      go (inr b) =
+          let j : ℕ = w - (8 * k + 8) in
+          let e : 128 - (8 * k + 8) ≡ (128 - w) + j = omega arith in
+          within 128 (n % 2 ^ w * 2 ^ (128 - w)) k (omega arith)
+          ∙ ap (λ (y : ℕ). n % 2 ^ w * 2 ^ (128 - w) / 2 ^ y % 2 ^ 8) e
+          ∙ ap (λ (y : ℕ). y % 2 ^ 8) (sym (shr-shr (n % 2 ^ w * 2 ^ (128 - w)) (128 - w) j) ∙ ap (λ (y : ℕ). y / 2 ^ j) (shl-shr (n % 2 ^ w) (128 - w)))
+          ∙ bits-at n w j (omega arith)
+          ∙ sym (within w n k b)
+
+-- so that the sixteen octets are the same
+pub first-sixteen : (width : Width) (n : ℕ) → sixteen 128 (n % 2 ^ bits width * 2 ^ (128 - bits width)) ≡ sixteen (bits width) n
+first-sixteen width n =
+    let (d, h) = width-octets width in
+    let m : ℕ = n % 2 ^ bits width * 2 ^ (128 - bits width) in
+    let l = sixteen-length 128 m (omega arith) in
+    ext-getD 0 (sixteen 128 m) (sixteen (bits width) n) (l ∙ sym (sixteen-length (bits width) n h)) (λ i b. sixteen-at 128 m i refl ∙ first-at (bits width) n i d h (omega (arith, l)) ∙ sym (sixteen-at (bits width) n i d))
+
+-- the loop's invariant: of the sixteen octets of 128 bits those before k are stored
+pub record Stored (n : ℕ) (l : List ℕ) (k : ℕ) : Type 0 where
   pub fits : k ≤ 16
   pub size : length l ≡ 16
-  pub each : (j : ℕ) → j < k → getD l j 0 ≡ octetAt (bits width) n j
+  pub each : (j : ℕ) → j < k → getD l j 0 ≡ octetAt 128 n j
 
 -- before the loop
-pub none-stored : (width : Width) (n : ℕ) → Stored width n (replicate 16 0) 0
-none-stored width n = record { fits = omega arith; size = refl; each = λ j h. absurd (omega arith) }
+pub none-stored : (n : ℕ) → Stored n (replicate 16 0) 0
+none-stored n = record { fits = omega arith; size = refl; each = λ j h. absurd (omega arith) }
 
 -- after one more
-pub one-stored : {width : Width} {n : ℕ} {l : List ℕ} {k : ℕ} (v : ℕ) → Stored width n l k → k < 16 → v ≡ octetAt (bits width) n k → Stored width n (set l k v) (k + 1)
-one-stored {width} {n} {l} {k} v s h e =
+pub one-stored : {n : ℕ} {l : List ℕ} {k : ℕ} (v : ℕ) → Stored n l k → k < 16 → v ≡ octetAt 128 n k → Stored n (set l k v) (k + 1)
+one-stored {n} {l} {k} v s h e =
     record {
       fits = omega arith;
       size = simp length-set (s .size);
-      each = below-more (λ (j : ℕ). getD (set l k v) j 0 ≡ octetAt (bits width) n j) k (λ j p. getD-set-other l k j v 0 (λ q. omega arith) ∙ s .each j p) (getD-set-same l k v 0 (omega (arith, s .size)) ∙ e);
+      each = below-more (λ (j : ℕ). getD (set l k v) j 0 ≡ octetAt 128 n j) k (λ j p. getD-set-other l k j v 0 (λ q. omega arith) ∙ s .each j p) (getD-set-same l k v 0 (omega (arith, s .size)) ∙ e);
     }
 
 -- at the end the octets are the address
-pub all-stored : {width : Width} {n : ℕ} {l : List ℕ} {k : ℕ} → Stored width n l k → 16 ≤ k → _≡_ {A = Address} (record { width = width; octets = l }) (addressOf width n)
-all-stored {width} {n} {l} s h =
-    let w = width-octets width in
+pub all-stored : {m : ℕ} {l : List ℕ} {k : ℕ} (width : Width) (n : ℕ) → Stored m l k → 16 ≤ k → m ≡ n % 2 ^ bits width * 2 ^ (128 - bits width)
+    → _≡_ {A = Address} (record { width = width; octets = l }) (addressOf width n)
+all-stored {m} {l} width n s h e =
     ap (λ (x : List ℕ). record { width = width; octets = x })
-    (ext-getD 0 l (sixteen (bits width) n) (s .size ∙ sym (sixteen-length (bits width) n (w .1))) (λ i b. s .each i (omega (arith, s .size)) ∙ sym (sixteen-at (bits width) n i (w .0))))
+    (ext-getD 0 l (sixteen 128 m) (s .size ∙ sym (sixteen-length 128 m (omega arith))) (λ i b. s .each i (omega (arith, s .size)) ∙ sym (sixteen-at 128 m i refl))
+    ∙ ap (λ (y : ℕ). sixteen 128 y) e
+    ∙ first-sixteen width n)

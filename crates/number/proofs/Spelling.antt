@@ -1,23 +1,29 @@
 -- The number that octets spell, as the code computes it. Theorems. Assumes nothing.
 --     Spelled      the loop's invariant.       start, mul-fits, sum-fits, turn, at-eight, at-end       its places
+--     array-octets     an array's elements are octets
 --     narrow, broad        the halves of an address of 32 and of 128 bits, by what its octets spell
 use mathlib.Core.Path.{_≡_, refl, sym, ap, ap₂, _∙_}
-use mathlib.Core.List.{List}
-use Prim.Native.Nat.{ℕ, _+_, _-_, _*_, _/_, _%_, _^_, _≤_, _<_}
+use mathlib.Core.List.{List, [], _∷_, map}
+use Prim.Native.Nat.{ℕ, zero, suc, _+_, _*_, _/_, _%_, _^_, _≤_, _<_}
 use native.Mathlib.Nat.{lt-of-lt-of-le}
 use native.Mathlib.Numerals.{add-one}
 use native.Mathlib.Omega.{arith}
 use lib.Arith.{digits-lt}
 use lib.Pow.{pow-add, pow-mono, high, low}
-use lib.ListN.{length, take, drop, getD, length-take, length-drop}
-use lib.Seq.{take-suc, take-all, take-add, length-take-le}
+use lib.ListN.{length, take, drop, getD, length-drop}
+use lib.Seq.{take-suc, take-all, take-add, take-take, length-take-le}
+use mir.Syntax.{w8}
+use mir.Val.{Val}
+use denote.Shadow.{shadow}
+use denote.Array.{each}
+use denote.Plain.{UInt}
 use Rattle.number.specs.Halves.{halves}
-use Rattle.number.specs.Octets.{value}
+use Rattle.number.specs.Octets.{Octets, value}
 use Rattle.number.specs.Address.{numberOf}
 use Rattle.number.specs.declared.halves.Halves.{Halves}
 use Rattle.number.specs.declared.halves.Width.the-variants.{Bits32, Bits128}
 use Rattle.number.specs.declared.address.Address.{Address}
-use Rattle.number.proofs.laws.Octets.{value-append}
+use Rattle.number.proofs.laws.Octets.{value-append, octets-part, first-of}
 
 -- n is what the first k octets of s spell, of which there are at most eight
 pub record Spelled (s : List ℕ) (n k : ℕ) : Type 0 where
@@ -71,11 +77,22 @@ small-halves {l} {n} b e =
     let q : l ≡ n % 2 ^ 64 = omega arith in
     ap₂ (λ (x y : ℕ). record { upper = x; lower = y }) p q
 
+-- an array's elements are octets
+pub array-octets : (s : List ℕ) (vs : List Val) → shadow (each ℕ (UInt w8 .own) (map (λ x. x) s) vs) → Octets s
+unfolding Octets
+array-octets [] vs o k = omega arith
+array-octets (x ∷ s) [] o k = absurd o
+array-octets (x ∷ s) (v ∷ vs) o zero = o .0 .1
+array-octets (x ∷ s) (v ∷ vs) o (suc k) = array-octets s vs (o .1) k
+
 module _ (a : Address) where
-  -- four octets, all in the lower half
-  pub narrow : {l : ℕ} → a .width ≡ Bits32 → l < 2 ^ 64 → l ≡ value (take 8 (take 4 (a .octets))) → _≡_ {A = Halves} (record { upper = 0; lower = l }) (halves (numberOf a))
+  -- four octets, the first half of eight
+  pub narrow : {l : ℕ} → a .width ≡ Bits32 → length (a .octets) ≡ 16 → Octets (a .octets) → l < 2 ^ 64 → l ≡ value (take 8 (a .octets)) → _≡_ {A = Halves} (record { upper = 0; lower = l / 2 ^ 32 }) (halves (numberOf a))
   unfolding numberOf
-  narrow e b p = rw e (small-halves b (p ∙ ap value (take-all 8 (take 4 (a .octets)) (omega (arith, length-take 4 (a .octets))))))
+  narrow {l} e s o b p =
+      let n : length (take 8 (a .octets)) ≡ 8 = length-take-le 8 (a .octets) (omega arith) in
+      let v = first-of 4 (take 8 (a .octets)) (octets-part 0 8 (a .octets) o) (omega arith) n in
+      rw e (small-halves (omega arith) (ap (λ (x : ℕ). x / 2 ^ 32) p ∙ v ∙ ap value (take-take 4 8 (a .octets) (omega arith))))
 
   -- sixteen octets, eight in each half
   pub broad : {u l : ℕ} → a .width ≡ Bits128 → length (a .octets) ≡ 16 → l < 2 ^ 64 → u ≡ value (take 8 (a .octets)) → l ≡ value (take 8 (take 8 (drop 8 (a .octets))))

@@ -1,7 +1,7 @@
 -- What `is_prefix` and `tell` find, in the terms of `isPrefix` and `shapeOf`. Theorems. Assumes nothing.
 use mathlib.Core.Path.{_≡_, sym, ap, _∙_}
 use mathlib.Core.Bool.{Bool, true, false}
-use Prim.Native.Nat.{ℕ, _+_, _-_, _^_, _<_, _≤_}
+use Prim.Native.Nat.{ℕ, _+_, _-_, _^_, _≤_, min}
 use native.Mathlib.Omega.{arith}
 use lib.Dec.{eqb}
 use lib.Pow.{split}
@@ -20,50 +20,41 @@ filled-free w x y =
     let e : w - (w - free w x y) ≡ free w x y = omega (arith, free-le w x y) in
     rw e (omega (arith, free-zeros w x y, split x (free w x y)))
 
--- the fewer of two runs
-module _ {z o : ℕ} (w x y : ℕ) (e : z ≡ run 0 w x) (g : o ≡ run 1 w y) where
-  pub free-zeros-fewer : z < o → z ≡ free w x y
-  unfolding free
-  free-zeros-fewer h = omega arith
+-- the less of two runs
+pub free-is : {z o r : ℕ} (w x y : ℕ) → z ≡ run 0 w x → o ≡ run 1 w y → r ≡ min z o → r ≡ free w x y
+unfolding free
+free-is w x y e g h = omega arith
 
-  pub free-ones-fewer : o ≤ z → o ≡ free w x y
-  unfolding free
-  free-ones-fewer h = omega arith
+-- the test of `is_filled`, by the halves that were filled
+pub filled-test : {s : Bool} {filled : Halves} (y n : ℕ) → filled ≡ halves n → s ≡ eqb y (whole filled) → s ≡ eqb y n
+filled-test y n k t = t ∙ ap (eqb y) (ap whole k ∙ whole-halves n)
 
--- the calls of `is_prefix`, in their order: the width, the bits that are free, low with ones for them
+-- the calls of `is_prefix`, in their order: the width, the bits that are free, the test
 module _ {f a : ℕ} (w x y : ℕ) (b : a ≡ w) (h : f ≡ free w x y) where
   -- they fit the width
   pub free-fits : f ≤ a
   free-fits = omega (arith, free-le w x y)
 
   -- the test that `isPrefix` makes
-  pub test-is : {s : Bool} {filled : Halves} → filled ≡ halves (oneFilled w (a - f) x) → s ≡ eqb y (whole filled) → s ≡ isPrefix w x y
+  pub test-is : {s : Bool} → s ≡ eqb y (oneFilled w (a - f) x) → s ≡ isPrefix w x y
   unfolding isPrefix
-  test-is {s} {filled} k t =
-      let n : whole filled ≡ x + (2 ^ free w x y - 1) = ap whole k ∙ whole-halves (oneFilled w (a - f) x) ∙ rw (b, h) (filled-free w x y) in
-      t ∙ ap (eqb y) n
+  test-is t = t ∙ ap (eqb y) (rw (b, h) (filled-free w x y))
 
--- the calls of `tell`, in their order: both numbers, whether they are a prefix
-module _ {from to : Halves} {s : Bool} (w x y : ℕ) (p : from ≡ halves x) (q : to ≡ halves y) (t : s ≡ isPrefix w (whole from) (whole to)) where
-  -- low's number
-  from-is : whole from ≡ x
-  from-is = ap whole p ∙ whole-halves x
-
-  -- high's number
-  to-is : whole to ≡ y
-  to-is = ap whole q ∙ whole-halves y
+-- the calls of `tell`, in their order: both numbers, the width, the bits that are free, the test
+module _ {from to : Halves} {s : Bool} {f a : ℕ} (w x y : ℕ) (p : from ≡ halves x) (q : to ≡ halves y) (b : a ≡ w) (h : f ≡ free w (whole from) (whole to))
+    (t : s ≡ eqb (whole to) (oneFilled w (a - f) (whole from))) where
+  -- what it says of the addresses' numbers
+  told : s ≡ isPrefix w x y
+  told = rw (ap whole p ∙ whole-halves x, ap whole q ∙ whole-halves y) at (test-is w (whole from) (whole to) b h t)
 
   -- a prefix, by the bits that are free
-  pub tell-prefix : {f a : ℕ} → s ≡ true → a ≡ w → f ≡ free w (whole from) (whole to) → Prefix (a - f) ≡ shapeOf w x y
+  pub tell-prefix : s ≡ true → Prefix (a - f) ≡ shapeOf w x y
   unfolding shapeOf
-  tell-prefix {f} {a} v b h =
-      let i : isPrefix w x y ≡ true = rw (from-is, to-is) at (sym t ∙ v) in
-      let g : f ≡ free w x y = rw (from-is, to-is) at h in
-      rw (i, b, g)
+  tell-prefix v =
+      let g : f ≡ free w x y = rw (ap whole p ∙ whole-halves x, ap whole q ∙ whole-halves y) at h in
+      rw (sym told ∙ v, b, g)
 
   -- a range
   pub tell-range : s ≡ false → Range ≡ shapeOf w x y
   unfolding shapeOf
-  tell-range v =
-      let i : isPrefix w x y ≡ false = rw (from-is, to-is) at (sym t ∙ v) in
-      rw i
+  tell-range v = rw (sym told ∙ v)

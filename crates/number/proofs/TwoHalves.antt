@@ -12,7 +12,6 @@ use lib.Arith.{digits-lt}
 use lib.Dec.{ltb, leb, eqb}
 use lib.Pow.{high, low, pow-add}
 use borrow.Author.Tests.{ltb-true, ltb-false, leb-true, leb-false, eqb-true, eqb-false, lt-ltb, le-ltb, le-leb, lt-leb, eq-eqb, ne-eqb}
-use Rattle.number.specs.Tests.{pick}
 use Rattle.number.specs.Halves.{whole, halves, next}
 use Rattle.number.specs.declared.halves.Halves.{Halves}
 

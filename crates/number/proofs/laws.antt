@@ -1,5 +1,6 @@
 pub mod Octets
 pub mod Address
+pub mod Papers
 pub mod Refusals
 pub mod Runs
 pub mod Kept

@@ -5,3 +5,4 @@ pub mod Octets
 pub mod Address
 pub mod Shape
 pub mod Refusal
+pub mod Papers

@@ -1,13 +1,12 @@
 // An address between the octets of a BIT STRING and the halves of a row (document 01: "its width and its sixteen octets, unused ones zero").
 ghost use mathlib.Core.Path.{_≡_};
-ghost use Prim.Native.Nat.{_+_, _*_, _/_, _%_, _^_, _<_};
+ghost use Prim.Native.Nat.{_-_, _*_, _/_, _%_, _^_, _<_};
 ghost use lib.ListN.{take};
 ghost use Rattle.number.specs.Halves.{whole, halves, bits as bitsOf};
 ghost use Rattle.number.specs.Octets.{value, octetAt};
 ghost use Rattle.number.specs.Address.{addressOf, numberOf};
 use crate::halves::Halves;
 use crate::halves::Width;
-use crate::halves::bits;
 
 pub struct Address {
     pub width: Width,
@@ -22,31 +21,40 @@ fn half_octet(x: u64, shift: u32) -> u8
     ((x >> shift) % 256) as u8
 }
 
-// Octet k of the width bits of n, the highest first; past the width 0.
-fn octet(width: Width, n: Halves, k: u32) -> u8
+// Octet k of 128 bits, the highest first.
+fn octet(n: Halves, k: u32) -> u8
     requires { ⌜ k < 16 ⌝ }
-    ensures { λ r. ⌜ r ≡ octetAt (bitsOf width) (whole n) k ⌝ }
+    ensures { λ r. ⌜ r ≡ octetAt 128 (whole n) k ⌝ }
 {
-    let w = bits(width);
-    let end = 8 * k + 8;
-    if w < end {
-        return 0;
-    }
-    let shift = w - end;
+    let shift = 120 - 8 * k;
     if shift < 64 {
         return half_octet(n.lower, shift);
     }
     half_octet(n.upper, shift - 64)
 }
 
+// The last bits of n, as many as the width has, as the first of 128, with zeros after them: the octets of an address are then at the same places for each width.
+fn first_bits(width: Width, n: Halves) -> Halves
+    ensures { λ r. ⌜ whole r ≡ whole n % 2 ^ bitsOf width * 2 ^ (128 - bitsOf width) ⌝ }
+{
+    match width {
+        Width::Bits32 => Halves {
+            upper: (n.lower % 4294967296) << 32,
+            lower: 0,
+        },
+        Width::Bits128 => n,
+    }
+}
+
 // Returns the address of the last bits of n, as many as the width has.
 pub fn from_halves(width: Width, n: Halves) -> Address
     ensures { λ r. ⌜ r ≡ addressOf width (whole n) ⌝ }
 {
+    let first = first_bits(width, n);
     let mut octets = [0u8; 16];
     let mut k: usize = 0;
     while k < 16 {
-        octets[k] = octet(width, n, k as u32);
+        octets[k] = octet(first, k as u32);
         k += 1;
     }
     Address { width, octets }
@@ -78,13 +86,14 @@ pub fn to_halves(a: Address) -> Halves
     let octets = a.octets;
     let width = a.width;
     let all: &[u8] = &octets;
+    let first = spelled(all);
     match width {
         Width::Bits32 => Halves {
             upper: 0,
-            lower: spelled(&all[0..4]),
+            lower: first >> 32,
         },
         Width::Bits128 => Halves {
-            upper: spelled(all),
+            upper: first,
             lower: spelled(&all[8..16]),
         },
     }

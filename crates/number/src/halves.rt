@@ -9,6 +9,8 @@ pub struct Halves {
     pub lower: u64,
 }
 
+pub const ZERO: Halves = Halves { upper: 0, lower: 0 };
+
 // How many bits a number of a space has: "at most 32 or 128 bits" (document 01).
 pub enum Width {
     Bits32,

@@ -5,6 +5,7 @@ ghost use Rattle.number.specs.Halves.{whole, halves, bits as bitsOf};
 ghost use Rattle.number.specs.Kept as spec;
 use crate::halves::Halves;
 use crate::halves::Width;
+use crate::halves::ZERO;
 use crate::halves::bits;
 
 // The run of zeros at the end of 128 bits, by the trailing-zero count of each half.
@@ -17,8 +18,8 @@ fn zeros_at_end(n: Halves) -> u32
     u64::trailing_zeros(n.lower)
 }
 
-// Returns the less of a and b.
-fn least(a: u32, b: u32) -> u32
+// The less of a and b.
+pub(crate) fn least(a: u32, b: u32) -> u32
     ensures { λ r. ⌜ r ≡ min a b ⌝ }
 {
     if a < b { a } else { b }
@@ -68,7 +69,7 @@ fn cut(n: Halves, j: u32) -> Halves
             lower: 0,
         };
     }
-    Halves { upper: 0, lower: 0 }
+    ZERO
 }
 
 // x with ones for its last j bits.

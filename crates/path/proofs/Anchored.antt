@@ -5,7 +5,7 @@
 use mathlib.Core.Path.{_≡_, refl, sym, ap, _∙_}
 use mathlib.Core.List.{List}
 use mathlib.Core.Bool.{true}
-use Prim.Native.Nat.{ℕ, zero, suc, _-_, _%_, _≤_, _<_}
+use Prim.Native.Nat.{ℕ, zero, suc, min, _-_, _%_, _≤_, _<_}
 use native.Mathlib.Omega.{arith}
 use lib.ListN.{length, take, drop}
 use borrow.Author.Tests.{lt-ltb, le-ltb}
@@ -17,14 +17,12 @@ use Rattle.table.specs.Rows.{Row, room, rowsOf, cleared}
 use Rattle.table.proofs.laws.Rows.{cleared-twice}
 use Rattle.der.specs.Parts.{is, isnt}
 use Rattle.path.specs.Bundle.{frameOf, certificatesIn}
-use Rattle.path.specs.Walk.{least}
-use Rattle.path.specs.Certificate.{Above, anchor, Step, seenAbove}
+use Rattle.path.specs.Certificate.{anchor, Step, seenAbove}
 use Rattle.path.specs.Paths.{descent, pathOf, Left, tabled, leaves, bare, check, Starting, placed, ends, descended}
 use Rattle.path.specs.declared.bundles.Framing.{Framing}
 use Rattle.path.specs.declared.bundles.Framing.the-variants as framing
 use Rattle.path.specs.declared.replies.Reply.{Reply}
 use Rattle.path.specs.declared.certificates.Above as code
-use Rattle.path.proofs.Counting.{least-min}
 use Rattle.path.proofs.Framed.{Bundled, bundled}
 use Rattle.path.proofs.Tabled.{full-none}
 
@@ -45,7 +43,7 @@ none = record { certificates = 0; rows = 0; ip = true; ids = true }
 no-rows : (t : List ℕ) → seenAbove none t ≡ anchor
 unfolding rowsOf
 no-rows t =
-    let e : least 0 (room t) ≡ 0 = omega (arith, least-min 0 (room t)) in
+    let e : min 0 (room t) ≡ 0 = omega arith in
     ap (λ (k : ℕ). record { certificates = 0; rows = rowsOf k t; ip = true; ids = true }) e
 
 module _ (count : ℕ) (values first second : List ℕ) (r : Reply) (first′ second′ : List ℕ) where

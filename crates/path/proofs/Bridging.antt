@@ -27,7 +27,7 @@ use Rattle.values.specs.declared.readings.Reading.the-variants as reading
 use Rattle.values.specs.declared.readings.Refused.{Refused}
 use Rattle.values.proofs.laws.Exact.{ip-exact, as-exact-after}
 use Rattle.path.specs.Replies.{faultAt, named}
-use Rattle.path.specs.Certificate.{Above, Step, onward, blamed, valueStep, ipStep, asStep, readStep, lacked, afterPresence, afterReading, certificate, Left, seenAbove, refused, left, checked}
+use Rattle.path.specs.Certificate.{Step, onward, blamed, valueStep, ipStep, asStep, readStep, lacked, afterPresence, afterReading, certificate, Left, seenAbove, refused, left, checked}
 use Rattle.path.specs.declared.replies.Reply.{Reply}
 use Rattle.path.specs.declared.replies.Reply.the-variants as reply
 use Rattle.path.specs.declared.certificates.Above as code

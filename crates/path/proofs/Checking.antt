@@ -5,11 +5,11 @@
 --     hold-..                 the exits of `hold`;   inherits-..   of `inherit`
 --     read-again              rows that were read are replaced by those after inheritance
 use mathlib.Core.Path.{_≡_, refl, sym, ap, _∙_}
-use mathlib.Core.List.{List, [], _∷_, _++_}
+use mathlib.Core.List.{List}
 use mathlib.Core.Bool.{Bool, true, false, not}
-use Prim.Native.Nat.{ℕ, suc, _≤_, _<_}
+use Prim.Native.Nat.{ℕ, min, _≤_, _<_}
 use native.Mathlib.Omega.{arith}
-use lib.ListN.{length, length-append}
+use lib.ListN.{length}
 use lib.Dec.{ltb, eqb}
 use borrow.Author.Tests.{lt-ltb, le-ltb, eq-eqb, ne-eqb, ltb-true, ltb-false, not-true, not-false}
 use Rattle.number.specs.Tests.{pick}
@@ -18,13 +18,13 @@ use Rattle.number.specs.declared.halves.Halves.{Halves}
 use Rattle.number.specs.declared.refusal.Refusal.{Refusal}
 use Rattle.number.specs.declared.refusal.Refusal.the-variants as refusal
 use Rattle.table.specs.Sizes.{maxRows, tableNumbers}
-use Rattle.table.specs.Rows.{Row, room, rowsOf, withRows, cleared}
+use Rattle.table.specs.Rows.{Row, room, rowsOf, rowsIn, withRows, cleared}
 use Rattle.table.proofs.laws.Rows.{length-withRows, rows-written, withRows-over, cleared-rows}
 use Rattle.der.specs.Parts.{is, isnt}
 use Rattle.values.specs.Limits.{ipExtension, asExtension, asNumbers}
 use Rattle.values.specs.declared.readings.Refused.{Refused}
-use Rattle.path.specs.Walk.{Result, covered, missing, walk, least, rowsIn, replied, walkedOf}
-use Rattle.path.specs.Inherit.{inSpace, resolved, Spaces, all, lacks, orLacks, lacking, filledIn, inherit}
+use Rattle.path.specs.Walk.{Result, covered, missing, walk, replied, walkedOf}
+use Rattle.path.specs.Inherit.{resolved, Spaces, all, lacks, lacking, filledIn, inherit}
 use Rattle.path.specs.Replies.{faultAt, extensionOf}
 use Rattle.path.specs.Certificate.{Above, Step, onward, carried, lacked, spacesStep, walkStep, holdStep, afterInheritance, afterPresence, Left, seenAbove, refused, left, heldBy}
 use Rattle.path.specs.declared.replies.Reply.{Reply}
@@ -34,7 +34,7 @@ use Rattle.path.specs.declared.walks.Walked as walked
 use Rattle.path.specs.declared.inherits.Inherited.{Inherited}
 use Rattle.path.specs.declared.inherits.Inherited.the-variants as inherited
 use Rattle.path.specs.declared.certificates.Above as code
-use Rattle.path.proofs.Counting.{least-min}
+use Rattle.path.proofs.Parts.{no-fewer}
 
 -- a refusal leaves zeros
 pub refused-leaves : (f : Refused) (t t′ : List ℕ) → t′ ≡ cleared tableNumbers t → _≡_ {A = Left} (reply.Refused f, t′) (refused f t)
@@ -135,18 +135,7 @@ module _ (a : code.Above) (issuer own : List ℕ) (n : ℕ) where
 
 -- a table has all the rows that are asked for
 pub rows-in : (n : ℕ) (t : List ℕ) → n ≤ maxRows → tableNumbers ≤ length t → rowsIn n t ≡ rowsOf n t
-rows-in n t h l = let e : least n (room t) ≡ n = omega (arith, least-min n (room t)) in ap (λ (k : ℕ). rowsOf k t) e
-
--- each row becomes one row at least, where the issuer has all spaces
-more-rows : (issuer rows : List Row) → lacking issuer rows ≡ all → length rows ≤ length (resolved issuer rows)
-more-rows issuer [] e = omega arith
-more-rows issuer (r ∷ rs) e = go (eqb (r .inherit) 1) (inSpace (r .space) issuer) (λ f. more-rows issuer rs f) e
-  where
-    go : (b : Bool) (qs : List Row) → (lacking issuer rs ≡ all → length rs ≤ length (resolved issuer rs)) → pick b (orLacks (r .space) qs (lacking issuer rs)) (lacking issuer rs) ≡ all
-        → suc (length rs) ≤ length (pick b (qs ++ resolved issuer rs) (r ∷ resolved issuer rs))
-    go true [] f e = let z : _≡_ {A = ℕ} 0 1 = cc in absurd (omega arith)
-    go true (q ∷ qs) f e = let k = f e in omega (arith, length-append qs (resolved issuer rs))
-    go false qs f e = let k = f e in omega arith
+rows-in n t h l = let e : min n (room t) ≡ n = omega arith in ap (λ (k : ℕ). rowsOf k t) e
 
 -- the last step over a table that has the rows leaves what it leaves over the table before
 held-left : (a : Above) (t : List ℕ) (rows : List Row) → length rows ≤ maxRows → heldBy (length rows) (withRows t 0 rows) (holdStep a rows) ≡ left (holdStep a rows) t
@@ -259,7 +248,7 @@ presence-longer a rows = go (lacking (a .rows) rows) refl
 
     go : (s : Spaces) → lacking (a .rows) rows ≡ s → Longer rows (onward (spacesStep (a .certificates) s own) (λ qs. afterInheritance a qs))
     go (lacks x) e = tt
-    go all e = count (ltb maxRows (length own)) (more-rows (a .rows) rows e)
+    go all e = count (ltb maxRows (length own)) (no-fewer (a .rows) rows e)
 
 -- what is left is the same over the rows that were read, and over what was there before
 left-over : (rows : List Row) (t : List ℕ) (s : Step (List Row × ℕ)) → length rows ≤ maxRows → Longer rows s → left s (withRows t 0 rows) ≡ left s t

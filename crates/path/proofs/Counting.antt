@@ -1,30 +1,20 @@
--- The loops of `count_in` and `count_all`: what holds at their heads, and what each way on from there gives. Assumes nothing.
+-- The loops of `count_in`, `any_inherits` and `count_all`: what holds at their heads, and what each way on from there gives. Assumes nothing.
 use mathlib.Core.Path.{_≡_, refl, sym, ap, _∙_}
 use mathlib.Core.List.{List, [], _∷_, _++_}
 use mathlib.Core.Bool.{Bool, true, false}
 use Prim.Native.Nat.{ℕ, min, _+_, _-_, _*_, _^_, _≤_, _<_}
 use native.Mathlib.Omega.{arith}
 use lib.ListN.{length, drop, length-append}
-use lib.Dec.{ltb}
-use borrow.Author.Tests.{ltb-true, ltb-false, eq-eqb, ne-eqb}
+use lib.Dec.{eqb}
+use borrow.Author.Tests.{eq-eqb, ne-eqb}
 use Rattle.number.specs.Tests.{pick}
 use Rattle.table.specs.Sizes.{rowNumbers, maxRows}
 use Rattle.table.specs.Rows.{Row, seen, inHalves, room, rowAt, rowsOf}
 use Rattle.table.specs.declared.rows.Row as code
 use Rattle.table.proofs.laws.Rows.{length-rowsOf, rows-split}
-use Rattle.path.specs.Walk.{least}
-use Rattle.path.specs.Inherit.{inSpace, resolved, all, lacks, orLacks, lacking, replaced, countOf}
+use Rattle.path.specs.Inherit.{inSpace, inherits, resolved, all, lacks, orLacks, lacking, replaced, countOf}
 use Rattle.path.specs.declared.inherits.Resolved.the-variants as count
 use Rattle.path.proofs.Parts.{rows-got, space-yes, space-no, lacking-append, lacking-last, resolved-last, few-replaced}
-
--- the lower of two numbers, as the solver knows it
-pub least-min : (a b : ℕ) → least a b ≡ min a b
-unfolding least
-least-min a b = go (ltb a b) refl
-  where
-    go : (t : Bool) → ltb a b ≡ t → pick t a b ≡ min a b
-    go true e = omega (arith, ltb-true a b e)
-    go false e = omega (arith, ltb-false a b e)
 
 -- THE ROWS OF A SPACE
 
@@ -63,6 +53,53 @@ module _ {t : List ℕ} {m s k n : ℕ} (h : Counting t m s k n) where
           there = h .there;
         }
 
+-- WHETHER A ROW INHERITS
+
+-- of some rows, and then others
+inherits-append : (xs ys : List Row) → inherits (xs ++ ys) ≡ pick (inherits xs) true (inherits ys)
+inherits-append [] ys = refl
+inherits-append (x ∷ xs) ys = go (eqb (x .inherit) 1) (inherits-append xs ys)
+  where
+    go : (b : Bool) → inherits (xs ++ ys) ≡ pick (inherits xs) true (inherits ys) → pick b true (inherits (xs ++ ys)) ≡ pick (pick b true (inherits xs)) true (inherits ys)
+    go true e = refl
+    go false e = e
+
+-- none of the first k rows does
+pub record Asking (t : List ℕ) (n k : ℕ) : Type 0 where
+  pub none : inherits (rowsOf k t) ≡ false
+  pub upto : k ≤ n
+  pub there : n ≤ room t
+
+pub ask-start : (t : List ℕ) (n : ℕ) → n ≤ room t → Asking t n 0
+unfolding rowsOf
+ask-start t n h = record { none = refl; upto = omega arith; there = h }
+
+module _ {t : List ℕ} {n k : ℕ} (h : Asking t n k) where
+  pub ask-end : n ≤ k → false ≡ inherits (rowsOf n t)
+  ask-end p = let e : n ≡ k = omega arith in rw e (sym (h .none))
+
+  module _ (p : k < n) (row : code.Row) (e : row ≡ inHalves (rowAt t k)) where
+    -- the first k rows, and the next
+    ask-next : inherits (rowsOf (k + 1) t) ≡ pick (eqb (row .inherit) 1) true false
+    ask-next =
+        ap inherits (rows-got k t row (omega arith) e)
+        ∙ inherits-append (rowsOf k t) (seen row ∷ [])
+        ∙ ap (λ (b : Bool). pick b true (inherits (seen row ∷ []))) (h .none)
+
+    -- the next does, and so one of all
+    pub ask-yes : row .inherit ≡ 1 → true ≡ inherits (rowsOf n t)
+    ask-yes y =
+        let i : inherits (rowsOf (k + 1) t) ≡ true = ask-next ∙ rw (eq-eqb (row .inherit) 1 y) refl in
+        let q : n ≡ (k + 1) + (n - (k + 1)) = omega arith in
+        sym (ap (λ (m : ℕ). inherits (rowsOf m t)) q
+        ∙ ap inherits (rows-split (k + 1) (n - (k + 1)) t)
+        ∙ inherits-append (rowsOf (k + 1) t) _
+        ∙ rw i refl)
+
+    -- or it does not
+    pub ask-no : (row .inherit ≡ 1 → ⊥) → Asking t n (k + 1)
+    ask-no y = record { none = ask-next ∙ rw (ne-eqb (row .inherit) 1 y) refl; upto = omega arith; there = h .there }
+
 -- ONE ROW
 
 module _ (issuer : List Row) (row : code.Row) where
@@ -92,7 +129,7 @@ module _ {issuer : List Row} {t : List ℕ} {n k total : ℕ} (h : Tallying issu
   unfolding countOf
   tally-end p =
       let e : n ≡ k = omega arith in
-      rw (e, h .covered) (ap (λ (i : ℕ). count.Rows i) (h .tally ∙ sym (least-min (length (resolved issuer (rowsOf k t))) (maxRows + 1))))
+      rw (e, h .covered) (ap (λ (i : ℕ). count.Rows i) (h .tally))
 
   module _ (p : k < n) (row : code.Row) (e : row ≡ inHalves (rowAt t k)) (more : ℕ) (q : more ≡ length (replaced issuer (seen row))) where
     got : rowsOf (k + 1) t ≡ rowsOf k t ++ (seen row ∷ [])
@@ -120,11 +157,11 @@ module _ {issuer : List Row} {t : List ℕ} {n k total : ℕ} (h : Tallying issu
     some [] z = absurd (z refl)
     some (r ∷ rs) z = refl
 
-    pub tally-turn : (more ≡ 0 → ⊥) → (sum : ℕ) → sum ≡ least (total + more) (maxRows + 1) → Tallying issuer t n (k + 1) sum
+    pub tally-turn : (more ≡ 0 → ⊥) → (sum : ℕ) → sum ≡ min (total + more) (maxRows + 1) → Tallying issuer t n (k + 1) sum
     tally-turn z sum s =
         record {
           covered = next-lacks ∙ some (replaced issuer (seen row)) (λ x. z (q ∙ x));
-          tally = rw (got, resolved-last issuer (rowsOf k t) (seen row), length-append) (omega (arith, s, least-min (total + more) (maxRows + 1), h .tally, q));
+          tally = rw (got, resolved-last issuer (rowsOf k t) (seen row), length-append) (omega (arith, s, h .tally, q));
           upto = omega arith;
           there = h .there;
         }

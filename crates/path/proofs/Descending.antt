@@ -14,12 +14,11 @@ use lib.Dec.{ltb}
 use borrow.Author.Tests.{lt-ltb, ne-eqb}
 use Rattle.number.proofs.Picks.{rest-of}
 use Rattle.table.specs.Sizes.{rowNumbers, maxRows, tableNumbers}
-use Rattle.table.specs.Rows.{Row, rowsOf, withRows, cleared}
+use Rattle.table.specs.Rows.{Row, rowsOf, rowsIn, withRows, cleared}
 use Rattle.table.proofs.laws.Rows.{length-rowsOf, length-cleared, cleared-twice}
 use Rattle.der.specs.Parts.{is, isnt}
 use Rattle.values.specs.declared.readings.Refused.{Refused}
 use Rattle.path.specs.Bundle.{lengthOf, lengthIn, endOf, onAfter, isValues, valueIn, afterValue, certificatesIn}
-use Rattle.path.specs.Walk.{rowsIn}
 use Rattle.path.specs.Certificate.{Above, Step, onward, carried, certificate, seenAbove, checked}
 use Rattle.path.specs.Certificate as one
 use Rattle.path.specs.Paths.{below, descent, Left, tabled, Begun, issuerOf, Full, Descending, placed, ends, descended}

@@ -13,9 +13,8 @@ use lib.ListN.{length, getD}
 use lib.Seq.{ext-getD}
 use Rattle.number.proofs.Picks.{below}
 use Rattle.table.specs.Sizes.{rowNumbers, maxRows, tableNumbers}
-use Rattle.table.specs.Rows.{Row, room, withRow, rowsOf, withRows, cleared}
+use Rattle.table.specs.Rows.{Row, room, withRow, rowsOf, rowsIn, withRows, cleared}
 use Rattle.table.proofs.laws.Rows.{kept-outside, length-rowsOf, length-withRows, rows-written, length-cleared, cleared-zero, cleared-later, cleared-twice, cleared-rows}
-use Rattle.path.specs.Walk.{rowsIn}
 use Rattle.path.specs.Paths.{tabled, Full}
 use Rattle.path.proofs.Checking.{rows-in}
 

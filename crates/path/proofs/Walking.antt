@@ -2,22 +2,20 @@
 use mathlib.Core.Path.{_≡_, refl, sym, ap, ap₂, _∙_}
 use mathlib.Core.List.{List, [], _∷_}
 use mathlib.Core.Bool.{Bool, true, false}
-use Prim.Native.Nat.{ℕ, suc, _+_, _-_, _*_, _≤_, _<_, _^_}
+use Prim.Native.Nat.{ℕ, suc, min, _+_, _-_, _*_, _≤_, _<_, _^_}
 use native.Mathlib.Nat.{sub-zero}
 use native.Mathlib.Omega.{arith}
 use lib.ListN.{drop}
-use lib.Dec.{ltb}
-use borrow.Author.Tests.{ltb-true}
 use Rattle.number.specs.Tests.{pick}
 use Rattle.number.specs.Halves.{halves}
 use Rattle.number.specs.declared.halves.Halves.{Halves}
 use Rattle.number.proofs.TwoHalves.{halves-whole}
 use Rattle.table.specs.Sizes.{rowNumbers}
-use Rattle.table.specs.Rows.{Row, seen, inHalves, room, rowAt, rowsOf}
+use Rattle.table.specs.Rows.{Row, seen, inHalves, room, rowAt, rowsOf, rowsIn}
 use Rattle.table.specs.declared.rows.Row as code
 use Rattle.table.proofs.Columns.{row-code}
 use Rattle.table.proofs.Listing.{rows-more}
-use Rattle.path.specs.Walk.{Walked, within, passed, gap, counted, stopped, against, walk, least, rowsIn, meetOf, walkedOf}
+use Rattle.path.specs.Walk.{Walked, within, passed, gap, counted, stopped, against, walk, meetOf, walkedOf}
 use Rattle.path.specs.declared.walks.Found.the-variants as found
 use Rattle.path.specs.declared.walks.Meet.{Meet}
 use Rattle.path.specs.declared.walks.Meet.the-variants as meet
@@ -72,14 +70,6 @@ left-more t n k row f h e =
     let q : rowAt t k ≡ seen row = sym (ap (λ (r : code.Row). seen r) e ∙ row-code (rowAt t k)) in
     rw g (rows-more t k (n - (k + 1)) (omega arith) ∙ ap (λ (r : Row). r ∷ left t n (k + 1)) q)
 
-least-upto : (a b : ℕ) → least a b ≤ b
-unfolding least
-least-upto a b = go (ltb a b) refl
-  where
-    go : (t : Bool) → ltb a b ≡ t → pick t a b ≤ b
-    go true e = omega (arith, ltb-true a b e)
-    go false e = omega arith
-
 -- THE LOOP
 
 abbrev added : ℕ → Walked → Walked
@@ -100,13 +90,13 @@ pub record Walking (w : Walked) (own issuer : List ℕ) (last end i j pairs : �
   pub issuer-upto : j ≤ end
   pub counts : pairs ≡ i + j
 
-pub walk-start : (own issuer : List ℕ) (n m last end : ℕ) → last ≡ least n (room own) → end ≡ least m (room issuer)
+pub walk-start : (own issuer : List ℕ) (n m last end : ℕ) → last ≡ min n (room own) → end ≡ min m (room issuer)
     → Walking (walk (rowsIn n own) (rowsIn m issuer)) own issuer last end 0 0 0
 walk-start own issuer n m last end p q =
     record {
       same = rw (sub-zero last, sub-zero end, p, q) (added-none (walk (rowsIn n own) (rowsIn m issuer)));
-      own-in = omega (arith, least-upto n (room own));
-      issuer-in = omega (arith, least-upto m (room issuer));
+      own-in = omega arith;
+      issuer-in = omega arith;
       own-upto = omega arith;
       issuer-upto = omega arith;
       counts = refl;

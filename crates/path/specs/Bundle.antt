@@ -21,6 +21,10 @@ mostOctets = 65536
 abbrev pub mostCertificates : ℕ
 mostCertificates = 8
 
+-- the octets before the first certificate: mark, version and count
+abbrev pub bundleHead : ℕ
+bundleHead = 6
+
 -- "16-bit length .. High octet first": of the value that s begins with
 abbrev pub lengthOf : List ℕ → ℕ
 lengthOf s = getD s 0 0 * 256 + getD s 1 0
@@ -60,7 +64,7 @@ frameOf b =
     (pick (isMarked b)
     (pick (eqb (getD b 5 0) 0) (Refused refusal.CertificateCount)
     (pick (ltb mostCertificates (getD b 5 0)) (Refused refusal.CertificateCount)
-    (pick (isValues (2 * getD b 5 0) (drop 6 b)) (Certificates (getD b 5 0)) (Refused refusal.Framing))))
+    (pick (isValues (2 * getD b 5 0) (drop bundleHead b)) (Certificates (getD b 5 0)) (Refused refusal.Framing))))
     (Refused refusal.Mark)))
 
 -- the value that s begins with, and what comes after it

@@ -5,16 +5,16 @@ use mathlib.Core.Bool.{Bool, true, false}
 use lib.ListN.{length}
 use lib.Dec.{ltb, eqb}
 use Rattle.number.specs.Tests.{pick}
-use Rattle.number.specs.Halves.{halves}
 use Rattle.number.specs.declared.refusal.Refusal.the-variants as refusal
 use Rattle.table.specs.Sizes.{maxRows, tableNumbers}
-use Rattle.table.specs.Rows.{Row, withRows, cleared}
+use Rattle.table.specs.Rows.{Row, rowsIn, withRows, cleared}
 use Rattle.der.specs.Parts.{Contents, is, isnt}
 use Rattle.values.specs.Limits.{ipExtension, asExtension, maxOctets}
 use Rattle.values.specs.Faults.{Fault}
 use Rattle.values.specs.Tables.{ipRows, asRows}
+use Rattle.values.specs.Readings.{naming}
 use Rattle.values.specs.declared.readings.Refused.{Refused}
-use Rattle.path.specs.Walk.{Result, covered, missing, walk, rowsIn}
+use Rattle.path.specs.Walk.{Result, covered, missing, walk}
 use Rattle.path.specs.Inherit.{Spaces, all, lacks, lacking, resolved}
 use Rattle.path.specs.Replies.{faultAt, extensionOf}
 use Rattle.path.specs.declared.replies.Reply.{Reply}
@@ -47,7 +47,7 @@ carried v = pick (eqb (length v) 0) false true
 -- IP VALUE, AS VALUE: the rows of a value of certificate k; "An absent extension holds nothing". "value .. above 32,768"
 abbrev pub blamed : ℕ → ℕ → Contents (List Row) Fault → Step (List Row)
 blamed k extension (is rows) = is rows
-blamed k extension (isnt f) = isnt (record { refusal = f .0; certificate = k; extension = extension; place = f .1; space = 0; value = halves 0 })
+blamed k extension (isnt f) = isnt (naming (f .0) k extension (f .1))
 
 abbrev pub valueStep : ℕ → ℕ → List ℕ → Contents (List Row) Fault → Step (List Row)
 valueStep k extension v rows =

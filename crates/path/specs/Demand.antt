@@ -29,13 +29,13 @@ pub record Certificate : Type 0 where
   pub ids : Extension
 
 -- "An absent extension holds nothing"
-abbrev pub rowsIn : Extension → List Row
-rowsIn absent = []
-rowsIn (carries rows) = rows
+abbrev pub carriedRows : Extension → List Row
+carriedRows absent = []
+carriedRows (carries rows) = rows
 
 -- what it lists and inherits: IP rows, then AS rows
 abbrev pub listing : Certificate → List Row
-listing c = rowsIn (c .ip) ++ rowsIn (c .ids)
+listing c = carriedRows (c .ip) ++ carriedRows (c .ids)
 
 -- A path is a list of certificates from the anchor down. The certificates above one, its issuer first, are its line.
 -- c is a certificate of the path below the line `start`, and `line` are those above it

@@ -1,14 +1,14 @@
 -- Rows after inheritance: "A certificate holds in a space what it lists there; where it inherits, what its issuer holds there; else nothing."
-use Prim.Native.Nat.{ℕ, _+_, _-_, _≤_}
+use Prim.Native.Nat.{ℕ, min, _+_, _-_, _≤_}
 use mathlib.Core.Path.{_≡_}
 use mathlib.Core.List.{List, [], _∷_, _++_}
+use mathlib.Core.Bool.{Bool, true, false}
 use lib.ListN.{length}
 use lib.Dec.{ltb, eqb}
 use Rattle.number.specs.Tests.{pick}
 use Rattle.table.specs.Sizes.{maxRows, tableNumbers}
-use Rattle.table.specs.Rows.{Row, room, rowsOf, withRows}
+use Rattle.table.specs.Rows.{Row, room, rowsOf, rowsIn, withRows}
 use Rattle.table.specs.Holdings.{Has, Holds}
-use Rattle.path.specs.Walk.{least, rowsIn}
 use Rattle.path.specs.declared.inherits.Inherited.{Inherited}
 use Rattle.path.specs.declared.inherits.Inherited.the-variants as code
 use Rattle.path.specs.declared.inherits.Resolved.{Resolved}
@@ -55,6 +55,11 @@ inherit n own m issuer =
 
 -- WHAT THE CODE SAYS
 
+-- whether one of the rows inherits
+abbrev pub inherits : List Row → Bool
+inherits [] = false
+inherits (r ∷ rs) = pick (eqb (r .inherit) 1) true (inherits rs)
+
 -- the rows that one row is after inheritance
 abbrev pub replaced : List Row → Row → List Row
 replaced issuer r = pick (eqb (r .inherit) 1) (inSpace (r .space) issuer) (r ∷ [])
@@ -62,7 +67,7 @@ replaced issuer r = pick (eqb (r .inherit) 1) (inSpace (r .space) issuer) (r ∷
 -- a space that the issuer does not have, or how many rows there are after inheritance: one more than a table has stands for all that are too many
 abbrev pub told : Spaces → ℕ → Resolved
 told (lacks t) k = count.NoSpace t
-told all k = count.Rows (least k (maxRows + 1))
+told all k = count.Rows (min k (maxRows + 1))
 
 unfoldable pub countOf : List Row → List Row → Resolved
 countOf issuer rows = told (lacking issuer rows) (length (resolved issuer rows))

@@ -11,7 +11,7 @@ use Rattle.number.specs.declared.refusal.Refusal.the-variants as refusal
 use Rattle.table.specs.Sizes.{maxRows, tableNumbers}
 use Rattle.table.specs.Rows.{Row, rowsOf, withRows, cleared}
 use Rattle.der.specs.Parts.{is, isnt}
-use Rattle.path.specs.Bundle.{lengthOf, isValues, frameOf, certificatesIn}
+use Rattle.path.specs.Bundle.{mostCertificates, bundleHead, lengthOf, isValues, frameOf, certificatesIn}
 use Rattle.path.specs.Replies.{faultAt}
 use Rattle.path.specs.Certificate.{Above, anchor, Step, onward, carried, certificate, seenAbove}
 use Rattle.path.specs.declared.bundles.Framing.{Framing}
@@ -39,7 +39,7 @@ onFraming (framing.Refused r) next = isnt (faultAt r 0 0 0 0)
 onFraming (framing.Certificates n) next = next n
 
 unfoldable pub pathOf : List ℕ → Step (List Row × ℕ)
-pathOf b = onFraming (frameOf b) (λ n. descent anchor 0 (certificatesIn n (drop 6 b)))
+pathOf b = onFraming (frameOf b) (λ n. descent anchor 0 (certificatesIn n (drop bundleHead b)))
 
 -- THE REPLY and the two tables: "the second table's first 3,072 numbers end as zero, and the first's hold the rows and then zeros (all zeros on refusal); later numbers are unchanged"
 abbrev pub Left : Type 0
@@ -89,7 +89,7 @@ pub record Descending (left : ℕ) (rest own : List ℕ) (old : ℕ) (issuer : L
 -- before the anchor
 pub record Starting (count : ℕ) (certificates first second : List ℕ) : Type 0 where
   pub framed : isValues (2 * count) certificates ≡ true
-  pub few : count ≤ 8
+  pub few : count ≤ mostCertificates
   pub one : Full 0 first
   pub two : Full 0 second
 

@@ -5,7 +5,7 @@ use mathlib.Core.Bool.{Bool, false}
 use lib.Dec.{ltb, leb, eqb}
 use Rattle.number.specs.Tests.{pick}
 use Rattle.number.specs.Halves.{halves}
-use Rattle.table.specs.Rows.{Row, room, rowsOf}
+use Rattle.table.specs.Rows.{Row}
 use Rattle.path.specs.declared.walks.Found.the-variants as found
 use Rattle.path.specs.declared.walks.Meet.{Meet}
 use Rattle.path.specs.declared.walks.Meet.the-variants as meet
@@ -51,13 +51,6 @@ walk [] issuer = record { result = covered; pairs = 0 }
 walk (o ∷ os) issuer = against o (walk os) issuer
 
 -- WHAT THE CODE SAYS
-
-unfoldable pub least : ℕ → ℕ → ℕ
-least a b = pick (ltb a b) a b
-
--- the first n rows of a run, or all that it has
-abbrev pub rowsIn : ℕ → List ℕ → List Row
-rowsIn n t = rowsOf (least n (room t)) t
 
 unfoldable pub meetOf : Row → Row → Meet
 meetOf o i = pick (within o i) meet.Within (pick (passed o i) meet.Passed (meet.Apart (halves (gap o i))))

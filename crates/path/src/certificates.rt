@@ -3,8 +3,7 @@ ghost use mathlib.Core.Path.{_≡_};
 ghost use Prim.Native.Nat.{_≤_};
 ghost use lib.ListN.{length};
 ghost use Rattle.table.specs.Sizes.{maxRows, tableNumbers};
-ghost use Rattle.table.specs.Rows.{rowsOf};
-ghost use Rattle.path.specs.Walk.{rowsIn};
+ghost use Rattle.table.specs.Rows.{rowsOf, rowsIn};
 ghost use Rattle.path.specs.Certificate as spec;
 use crate::inherits;
 use crate::inherits::Inherited;
@@ -12,7 +11,7 @@ use crate::replies;
 use crate::replies::Reply;
 use crate::walks;
 use crate::walks::Found;
-use number::halves::Halves;
+use number::halves;
 use number::refusal::Refusal;
 use table::rows;
 use values::limits;
@@ -63,21 +62,20 @@ fn inherit(own: &mut [u64], n: usize, issuer: &[u64], above: Above) -> Reply
     match inherits::inherit(own, n, issuer, above.rows) {
         Inherited::Rows(total) => hold(own, total, issuer, above),
         Inherited::NoSpace(space) => {
-            let zero = Halves { upper: 0, lower: 0 };
             let fault = replies::fault_in(
                 Refusal::NothingToInherit,
                 above.certificates,
                 space,
-                zero,
+                halves::ZERO,
             );
             refuse(own, fault)
         }
         Inherited::TooMany => {
-            let fault = replies::fault(Refusal::RowCount, above.certificates, 0);
+            let fault = readings::naming(Refusal::RowCount, above.certificates, 0, 0);
             refuse(own, fault)
         }
         Inherited::Short => {
-            let fault = replies::fault(Refusal::TableShort, 0, 0);
+            let fault = readings::naming(Refusal::TableShort, 0, 0, 0);
             refuse(own, fault)
         }
     }
@@ -106,7 +104,7 @@ pub fn certificate(ip: &[u8], ids: &[u8], own: &mut [u64], issuer: &[u64], above
     ensures { λ r. ⌜ (r, now (own .exit)) ≡ spec.checked (spec.seenAbove above (now (issuer .entry))) (now (ip .entry)) (now (ids .entry)) (now (own .entry)) ⌝ }
 {
     if own.len() < rows::NUMBERS {
-        let short = replies::fault(Refusal::TableShort, 0, 0);
+        let short = readings::naming(Refusal::TableShort, 0, 0, 0);
         return Reply::Refused(short);
     }
     match readings::step_both(ip, ids, own) {
@@ -119,7 +117,7 @@ pub fn certificate(ip: &[u8], ids: &[u8], own: &mut [u64], issuer: &[u64], above
             if extension == 0 {
                 return inherit(own, n, issuer, above);
             }
-            let fault = replies::fault(Refusal::IssuerLacks, above.certificates, extension);
+            let fault = readings::naming(Refusal::IssuerLacks, above.certificates, extension, 0);
             refuse(own, fault)
         }
     }

@@ -3,7 +3,6 @@ ghost use Prim.Native.Nat.{_≤_};
 ghost use mathlib.Core.Path.{_≡_};
 ghost use lib.ListN.{length};
 ghost use Rattle.table.specs.Rows.{seen, room, rowsOf, withRows};
-ghost use Rattle.path.specs.Walk as walk;
 ghost use Rattle.path.specs.Inherit as spec;
 use table::rows;
 use table::rows::Row;
@@ -20,12 +19,6 @@ pub enum Inherited {
 pub enum Resolved {
     Rows(usize),
     NoSpace(u64),
-}
-
-fn least(a: usize, b: usize) -> usize
-    ensures { λ r. ⌜ r ≡ walk.least a b ⌝ }
-{
-    if a < b { a } else { b }
 }
 
 // How many of the issuer's first m rows are in the space.
@@ -69,7 +62,7 @@ fn count_all(own: &[u64], n: usize, issuer: &[u64], m: usize) -> Resolved
         if more == 0 {
             return Resolved::NoSpace(row.space);
         }
-        total = least(total + more, rows::ROWS + 1);
+        total = rows::fewer(total + more, rows::ROWS + 1);
         k = k + 1;
     }
     Resolved::Rows(total)
@@ -120,6 +113,22 @@ fn put_all(own: &mut [u64], n: usize, issuer: &[u64], m: usize, total: usize)
     }
 }
 
+// Whether one of the first n rows inherits. Most certificates have no such row, and are left as they are.
+fn any_inherits(own: &[u64], n: usize) -> bool
+    requires { ⌜ n ≤ room (now own) ⌝ }
+    ensures { λ r. ⌜ r ≡ spec.inherits (rowsOf n (now (own .entry))) ⌝ }
+{
+    let mut k: usize = 0;
+    while k < n {
+        let row = rows::get(own, k);
+        if row.inherit == 1 {
+            return true;
+        }
+        k = k + 1;
+    }
+    false
+}
+
 // Replaces each inherit row of the first n rows of `own` by the issuer's rows of its space, of the issuer's first m rows.
 // Returns the rows then; on a refusal `own` is unchanged.
 pub fn inherit(own: &mut [u64], n: usize, issuer: &[u64], m: usize) -> Inherited
@@ -128,8 +137,14 @@ pub fn inherit(own: &mut [u64], n: usize, issuer: &[u64], m: usize) -> Inherited
     if own.len() < rows::NUMBERS {
         return Inherited::Short;
     }
-    let count = least(n, own.len() / rows::ROW);
-    let over = least(m, issuer.len() / rows::ROW);
+    let count = rows::count(own, n);
+    if !any_inherits(own, count) {
+        if rows::ROWS < count {
+            return Inherited::TooMany;
+        }
+        return Inherited::Rows(count);
+    }
+    let over = rows::count(issuer, m);
     match count_all(own, count, issuer, over) {
         Resolved::NoSpace(space) => Inherited::NoSpace(space),
         Resolved::Rows(total) => {

@@ -8,16 +8,16 @@ use crate::bundles;
 use crate::bundles::Framing;
 use crate::certificates;
 use crate::certificates::Above;
-use crate::replies;
 use crate::replies::Reply;
 use number::refusal::Refusal;
 use table::rows;
+use values::readings;
 
 // "Numbers 12 and 16 to 20 name certificate 0 and extension 0".
 fn refused(refusal: Refusal) -> Reply
     ensures { λ r. ⌜ r ≡ spec.bare refusal ⌝ }
 {
-    let fault = replies::fault(refusal, 0, 0);
+    let fault = readings::naming(refusal, 0, 0, 0);
     Reply::Refused(fault)
 }
 

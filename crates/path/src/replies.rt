@@ -3,6 +3,7 @@ ghost use mathlib.Core.Path.{_≡_};
 ghost use Rattle.path.specs.Replies as spec;
 use number::halves::Halves;
 use number::refusal::Refusal;
+use table::spaces;
 use values::limits;
 use values::readings::Refused;
 
@@ -13,29 +14,11 @@ pub enum Reply {
     Refused(Refused),
 }
 
-// Spaces from here on are those of ASIdentifiers.
-pub const AS_SPACES: u64 = 4096;
-
-// Returns a refusal that names no place, space or value, as the certificate gives it.
-pub fn fault(refusal: Refusal, certificate: u64, extension: u64) -> Refused
-    ensures { λ r. ⌜ r ≡ spec.faultAt refusal certificate extension 0 0 ⌝ }
-{
-    let zero = Halves { upper: 0, lower: 0 };
-    Refused {
-        refusal: refusal,
-        certificate: certificate,
-        extension: extension,
-        place: 0,
-        space: 0,
-        value: zero,
-    }
-}
-
 // Returns the refusal 14 or 15 in a space: "their extension follows from the space".
 pub fn fault_in(refusal: Refusal, certificate: u64, space: u64, value: Halves) -> Refused
     ensures { λ r. ⌜ r ≡ record { refusal = refusal; certificate = certificate; extension = spec.extensionOf space; place = 0; space = space; value = value } ⌝ }
 {
-    let extension = if space < AS_SPACES {
+    let extension = if space < spaces::AS_NUMBERS {
         limits::IP_EXTENSION
     } else {
         limits::AS_EXTENSION

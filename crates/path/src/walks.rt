@@ -1,6 +1,6 @@
 // The walk over own and issuer's rows, after inheritance, with the number of row pairs looked at.
 ghost use mathlib.Core.Path.{_≡_};
-ghost use Rattle.table.specs.Rows.{seen};
+ghost use Rattle.table.specs.Rows.{seen, rowsIn};
 ghost use Rattle.path.specs.Walk as spec;
 ghost use Rattle.path.specs.declared.walks.Found.the-variants as variants;
 use number::halves;
@@ -55,12 +55,6 @@ fn how(own: Row, issuer: Row) -> Meet
     Meet::Apart(low)
 }
 
-fn least(a: usize, b: usize) -> usize
-    ensures { λ r. ⌜ r ≡ spec.least a b ⌝ }
-{
-    if a < b { a } else { b }
-}
-
 fn missing(space: u64, low: Halves, pairs: usize) -> Walked
     ensures { λ r. ⌜ r ≡ record { found = variants.Missing space low; pairs = pairs } ⌝ }
 {
@@ -74,10 +68,10 @@ fn missing(space: u64, low: Halves, pairs: usize) -> Walked
 // Walks the first n rows of `own` against the first m rows of `issuer`; a run with fewer rows counts with those that it has.
 // Returns whether each own number is the issuer's, or the smallest that is not, and the number of pairs looked at.
 pub fn walk(own: &[u64], n: usize, issuer: &[u64], m: usize) -> Walked
-    ensures { λ r. ⌜ r ≡ spec.walkedOf (spec.walk (spec.rowsIn n (now (own .entry))) (spec.rowsIn m (now (issuer .entry)))) ⌝ }
+    ensures { λ r. ⌜ r ≡ spec.walkedOf (spec.walk (rowsIn n (now (own .entry))) (rowsIn m (now (issuer .entry)))) ⌝ }
 {
-    let last = least(n, own.len() / rows::ROW);
-    let end = least(m, issuer.len() / rows::ROW);
+    let last = rows::count(own, n);
+    let end = rows::count(issuer, m);
     let mut i: usize = 0;
     let mut j: usize = 0;
     let mut pairs: usize = 0;

@@ -8,7 +8,7 @@ use native.Mathlib.Omega.{arith}
 use lib.ListN.{length, drop, length-append}
 use Rattle.number.specs.Halves.{whole}
 use Rattle.number.specs.Refusal.{numberOf}
-use Rattle.table.specs.Sizes.{rowNumbers}
+use Rattle.table.specs.Sizes.{rowNumbers, maxRows}
 use Rattle.table.specs.Rows.{Row, seen, inHalves, room, rowAt, rowsOf}
 use Rattle.table.specs.declared.rows.Row as code
 use Rattle.table.proofs.Columns.{row-code}
@@ -104,7 +104,7 @@ rows-most [] = omega arith
 rows-most (r ∷ rs) = simp length-append (omega (arith, row-most r, rows-most rs))
 
 -- of a table
-pub ok-most : (out : List ℕ) (count pairs n : ℕ) (t : List ℕ) → n ≤ 512 → roomFor ≤ length out → length (okText count pairs (rowsOf n t)) ≤ length out
+pub ok-most : (out : List ℕ) (count pairs n : ℕ) (t : List ℕ) → n ≤ maxRows → roomFor ≤ length out → length (okText count pairs (rowsOf n t)) ≤ length out
 unfolding okText
 ok-most out count pairs n t h g = simp length-append (omega (arith, field-most count, field-most pairs, rows-most (rowsOf n t), length-rowsOf n t))
 

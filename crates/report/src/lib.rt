@@ -1,4 +1,5 @@
 // The text of a reply of the path check and its table, as `pathtable` prints it.
+// The pieces ask for room, so they are private; they stand here, where `reports`, which has the entry, sees them.
 ghost use Prim.Native.Nat.{_+_, _≤_, _<_};
 ghost use mathlib.Core.Path.{_≡_};
 ghost use mathlib.Core.List.{[]};

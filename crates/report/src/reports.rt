@@ -7,12 +7,6 @@ use table::rows;
 // Room for any report.
 pub const ROOM: usize = 65536;
 
-fn least(a: usize, b: usize) -> usize
-    ensures { λ r. ⌜ r ≡ spec.least a b ⌝ }
-{
-    if a < b { a } else { b }
-}
-
 // Writes the text of a reply, and of its rows as the table has them, at the start of `out`; of a table no more rows than a certificate may have.
 // Returns how many octets it has; 0, and `out` unchanged, where `out` has not room for any report.
 pub fn report(reply: Reply, table: &[u64], out: &mut [u8]) -> usize
@@ -23,8 +17,8 @@ pub fn report(reply: Reply, table: &[u64], out: &mut [u8]) -> usize
     }
     match reply {
         Reply::Accepted(count, pairs) => {
-            let most = least(table.len() / rows::ROW, rows::ROWS);
-            crate::put_ok(out, count, pairs, table, least(count, most))
+            let most = rows::fewer(count, rows::ROWS);
+            crate::put_ok(out, count, pairs, table, rows::count(table, most))
         }
         Reply::Refused(fault) => crate::put_no(out, fault),
     }

@@ -1,8 +1,8 @@
 -- Tidy rows by where they may begin, and what they hold by where it may lie. Assumes nothing.
 --     Upto, Before       the order of numbers: space first, then number
---     on, back, both     it goes on, it does not go back, and both ways it is equality
+--     on, back, both     it goes on, it does not go back, and both ways it is equality.      begins      a space begins with number 0
 --     From s a rows      the rows are tidy and begin at number a of space s or later
---     tidy-from, from-tidy        the tidy rows are those from (0, 0)
+--     tidy-from, from-tidy        the tidy rows are those from (0, 0).      looser      rows from a place are rows from any earlier one
 --     from, from-inherit          what they hold, and what they inherit, is not before where they begin
 --     start              they begin where their first row does
 use mathlib.Core.Path.{_≡_, refl}
@@ -48,11 +48,11 @@ both (earlier-space p) (same-space q l) = absurd (omega arith)
 both (same-space p k) (earlier-space q) = absurd (omega arith)
 both (same-space p k) (same-space q l) = (omega arith, omega arith)
 
--- the next space begins at or before whatever is in a later one
-pub next-space : {s t b : ℕ} → s < t → Upto (s + 1) 0 t b
-next-space {s} {t} {b} h = go (below (s + 1) t)
+-- a space begins at or before whatever is in it or in a later one
+pub begins : {s t b : ℕ} → s ≤ t → Upto s 0 t b
+begins {s} {t} {b} h = go (below s t)
   where
-    go : (s + 1 < t) ⊎ (t ≤ s + 1) → Upto (s + 1) 0 t b
+    go : (s < t) ⊎ (t ≤ s) → Upto s 0 t b
     go (inl p) = earlier-space p
     go (inr p) = same-space (omega arith) (omega arith)
 
@@ -69,27 +69,25 @@ pub data From : ℕ → ℕ → List Row → Type 0 where
   a-list : {s a : ℕ} {r : Row} {rs : List Row} → r .inherit ≡ 0 → Upto s a (r .space) (r .low) → r .low ≤ r .high → From (r .space) (r .high + 2) rs → From s a (r ∷ rs)
   an-inherit : {s a : ℕ} {r : Row} {rs : List Row} → r .inherit ≡ 1 → r .low ≡ 0 → r .high ≡ 0 → Upto s a (r .space) 0 → From (r .space + 1) 0 rs → From s a (r ∷ rs)
 
+-- rows from a place are rows from any earlier one
+pub looser : {s a t b : ℕ} {rs : List Row} → Upto s a t b → From t b rs → From s a rs
+looser u no-row = no-row
+looser u (a-list e v l f) = a-list e (on u (le-refl _) v) l f
+looser u (an-inherit e l h v f) = an-inherit e l h (on u (le-refl _) v) f
+
 -- what is tidy, from where its first row begins
 tidy-on : {s a : ℕ} {r : Row} {rs : List Row} → Upto s a (r .space) (r .low) → Tidy (r ∷ rs) → From s a (r ∷ rs)
 tidy-on u (Tidy.one (lists e l)) = a-list e u l no-row
 tidy-on u (Tidy.one (inherits e l h)) = an-inherit e l h (rw l at u) no-row
 tidy-on u (Tidy.more (lists e l) (by-space f) t) = a-list e u l (tidy-on (earlier-space f) t)
 tidy-on u (Tidy.more (lists e l) (by-gap f i j g) t) = a-list e u l (tidy-on (same-space f (omega arith)) t)
-tidy-on u (Tidy.more (inherits e l h) (by-space f) t) = an-inherit e l h (rw l at u) (tidy-on (next-space f) t)
+tidy-on u (Tidy.more (inherits e l h) (by-space f) t) = an-inherit e l h (rw l at u) (tidy-on (begins (omega arith)) t)
 tidy-on u (Tidy.more (inherits e l h) (by-gap f i j g) t) = absurd (omega arith)
-
--- nothing is before number 0 of space 0
-anywhere : (t b : ℕ) → Upto 0 0 t b
-anywhere t b = go (below 0 t)
-  where
-    go : (0 < t) ⊎ (t ≤ 0) → Upto 0 0 t b
-    go (inl p) = earlier-space p
-    go (inr p) = same-space (omega arith) (omega arith)
 
 -- tidy rows are rows from number 0 of space 0
 pub tidy-from : (rows : List Row) → Tidy rows → From 0 0 rows
 tidy-from [] t = no-row
-tidy-from (r ∷ rs) t = tidy-on (anywhere (r .space) (r .low)) t
+tidy-from (r ∷ rs) t = tidy-on (begins (omega arith)) t
 
 -- a row that may begin after a listed one follows it
 after-list : {a b : Row} {rs : List Row} → a .inherit ≡ 0 → From (a .space) (a .high + 2) (b ∷ rs) → Follows a b

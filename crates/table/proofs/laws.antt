@@ -3,3 +3,4 @@ pub mod Rows
 pub mod Tables
 pub mod Only
 pub mod OneReply
+pub mod Papers

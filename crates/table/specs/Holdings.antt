@@ -1,6 +1,6 @@
 -- What rows hold. "A certificate holds in a space what it lists there". "Families match only by equal space".
 use mathlib.Core.Path.{_≡_}
-use mathlib.Core.List.{List, [], _∷_}
+use mathlib.Core.List.{List, _∷_}
 use Prim.Native.Nat.{ℕ, _≤_}
 use Rattle.table.specs.Rows.{Row}
 

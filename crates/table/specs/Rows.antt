@@ -1,5 +1,5 @@
 -- A row, and the six numbers in which a lent run has it: "space, inherit mark (0 or 1), low (upper half, lower half), high (upper half, lower half)".
-use Prim.Native.Nat.{ℕ, zero, suc, _+_, _*_, _/_, _%_, _^_, min}
+use Prim.Native.Nat.{ℕ, zero, suc, _+_, _*_, _/_, _^_, min}
 use mathlib.Core.List.{List, [], _∷_, _++_}
 use lib.ListN.{length, getD, take, drop, replicate}
 use lib.Dec.{ltb}
@@ -23,8 +23,11 @@ abbrev pub inHalves : Row → code.Row
 inHalves r = record { space = r .space; inherit = r .inherit; low = halves (r .low); high = halves (r .high) }
 
 -- the numbers of a row: nobody else says how many they are, or in which order
+abbrev pub rowPaper : code.Row → List ℕ
+rowPaper r = r .space ∷ r .inherit ∷ r .low .upper ∷ r .low .lower ∷ r .high .upper ∷ r .high .lower ∷ []
+
 abbrev pub numbers : Row → List ℕ
-numbers r = r .space ∷ r .inherit ∷ r .low / 2 ^ 64 ∷ r .low % 2 ^ 64 ∷ r .high / 2 ^ 64 ∷ r .high % 2 ^ 64 ∷ []
+numbers r = rowPaper (inHalves r)
 
 -- the row that a run begins with
 abbrev pub front : List ℕ → Row
@@ -50,6 +53,10 @@ withRow t n r = pick (ltb n (room t)) (take (rowNumbers * n) t ++ numbers r ++ d
 unfoldable pub rowsOf : ℕ → List ℕ → List Row
 rowsOf zero t = []
 rowsOf (suc n) t = front t ∷ rowsOf n (drop rowNumbers t)
+
+-- the first n rows of a run, or all that it has
+abbrev pub rowsIn : ℕ → List ℕ → List Row
+rowsIn n t = rowsOf (min n (room t)) t
 
 -- the run with its first n numbers zero
 unfoldable pub cleared : ℕ → List ℕ → List ℕ

@@ -16,6 +16,13 @@ ipKind = 1
 abbrev pub asKind : ℕ
 asKind = 2
 
+-- "AS numbers are 4096, routing domain identifiers 5120"
+abbrev pub asNumbers : ℕ
+asNumbers = 4096
+
+abbrev pub routingDomains : ℕ
+routingDomains = 5120
+
 -- from the first space of a family to its last
 unfoldable pub between : ℕ → ℕ → ℕ → Bool
 between first last s = pick (leb first s) (leb s last) false
@@ -25,8 +32,8 @@ unfoldable pub kindOf : ℕ → ℕ
 kindOf s =
     pick (between 1024 1280 s) ipKind
     (pick (between 2048 2304 s) ipKind
-    (pick (eqb s 4096) asKind
-    (pick (eqb s 5120) asKind 0)))
+    (pick (eqb s asNumbers) asKind
+    (pick (eqb s routingDomains) asKind 0)))
 
 -- the width follows the AFI; AS numbers and routing domain identifiers have 32 bits
 unfoldable pub widthOf : ℕ → Width

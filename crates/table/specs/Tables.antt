@@ -3,7 +3,7 @@ use mathlib.Core.Path.{_≡_}
 use mathlib.Core.List.{List, [], _∷_}
 use mathlib.Core.Bool.{Bool, true, false}
 use mathlib.Core.Logic.{_⊎_}
-use Prim.Native.Nat.{ℕ, _+_, _/_, _%_, _^_, _≤_, _<_}
+use Prim.Native.Nat.{ℕ, _+_, _%_, _^_, _≤_, _<_}
 use lib.ListN.{length}
 use lib.Dec.{ltb, leb, eqb}
 use Rattle.number.specs.Tests.{pick}
@@ -11,7 +11,7 @@ use Rattle.number.specs.Halves.{bits}
 use Rattle.number.specs.declared.halves.Width.{Width}
 use Rattle.table.specs.Sizes.{rowNumbers, maxRows, tableNumbers}
 use Rattle.table.specs.Spaces.{mixedKind, asKind, kindOf, widthOf}
-use Rattle.table.specs.Rows.{Row, nothing, rowsOf}
+use Rattle.table.specs.Rows.{Row, nothing, room, rowsOf}
 
 -- "Low is at most high." "An inherit row has zeros for low and high."
 pub data Sound (r : Row) : Type 0 where
@@ -87,5 +87,5 @@ isTable kind t =
     pick (ltb asKind kind) false
     (pick (eqb (length t % rowNumbers) 0)
     (pick (ltb tableNumbers (length t)) false
-    (listed kind nothing (rowsOf (length t / rowNumbers) t)))
+    (listed kind nothing (rowsOf (room t) t)))
     false)

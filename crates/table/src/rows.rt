@@ -1,8 +1,10 @@
 // A row in a lent run of numbers: "six 64-bit numbers: space, inherit mark (0 or 1), low (upper half, lower half), high (upper half, lower half)".
 // Only this file knows how many numbers a row has and in which order.
 ghost use mathlib.Core.Path.{_≡_};
-ghost use Rattle.table.specs.Rows.{inHalves, seen, rowAt, withRow, cleared};
+ghost use Prim.Native.Nat.{min};
+ghost use Rattle.table.specs.Rows.{inHalves, seen, room, rowAt, withRow, cleared};
 use number::halves::Halves;
+use number::halves::ZERO;
 
 // The numbers of a row, the rows of a table at most, and the numbers of those.
 pub const ROW: usize = 6;
@@ -18,18 +20,34 @@ pub struct Row {
     pub high: Halves,
 }
 
+// Zeros, which no table has as a row.
+pub const NOTHING: Row = Row {
+    space: 0,
+    inherit: 0,
+    low: ZERO,
+    high: ZERO,
+};
+
+// Returns the lower of two counts.
+pub fn fewer(a: usize, b: usize) -> usize
+    ensures { λ r. ⌜ r ≡ min a b ⌝ }
+{
+    if a < b { a } else { b }
+}
+
+// Returns how many of its first n rows a run has: n, or all that fit it.
+pub fn count(run: &[u64], n: usize) -> usize
+    ensures { λ r. ⌜ r ≡ min n (room (now (run .entry))) ⌝ }
+{
+    fewer(n, run.len() / ROW)
+}
+
 // Returns row n of a run, or a row of zeros where the run has no row n.
 pub fn get(run: &[u64], n: usize) -> Row
     ensures { λ r. ⌜ r ≡ inHalves (rowAt (now (run .entry)) n) ⌝ }
 {
     if run.len() / ROW <= n {
-        let zero = Halves { upper: 0, lower: 0 };
-        return Row {
-            space: 0,
-            inherit: 0,
-            low: zero,
-            high: zero,
-        };
+        return NOTHING;
     }
     let at = ROW * n;
     let low = Halves {

@@ -40,9 +40,8 @@ fn marked(row: Row) -> bool
     ensures { λ r. ⌜ r ≡ spec.marked (seen row) ⌝ }
 {
     if row.inherit == 1 {
-        let zero = Halves { upper: 0, lower: 0 };
-        if halves::same(row.low, zero) {
-            return halves::same(row.high, zero);
+        if halves::same(row.low, halves::ZERO) {
+            return halves::same(row.high, halves::ZERO);
         }
         return false;
     }
@@ -100,13 +99,7 @@ pub fn is_table(kind: u64, numbers: &[u64]) -> bool
         return false;
     }
     let count = numbers.len() / rows::ROW;
-    let zero = Halves { upper: 0, lower: 0 };
-    let mut before = Row {
-        space: 0,
-        inherit: 0,
-        low: zero,
-        high: zero,
-    };
+    let mut before = rows::NOTHING;
     let mut k: usize = 0;
     while k < count {
         let row = rows::get(numbers, k);

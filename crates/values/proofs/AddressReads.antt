@@ -1,27 +1,30 @@
 -- What the code of `addresses` finds at each of its ends, in the terms of the definitions. Theorems. Assumes nothing.
---     Strung, bits-..      `bits_at`.      prefix-..       `prefix_row` and `prefix_at`.       Limited, bounds-..       `bounds_of`
---     ranged-..        `range_row`.        range-..        `range_at`
+--     Strung, bits-..      `any_bits_at` and `bits_at`.        brief-..        what `brief_bits` says.     prefix-..       `prefix_row` and `prefix_at`.       Limited, bounds-..       `bounds_of`
+--     Bounded, any-.., both-..     `any_bounds_at` and `bounds_at`.        ranged-..        `range_row`.        range-..        `range_at`
 use mathlib.Core.Path.{_≡_, refl, sym, ap, _∙_}
 use mathlib.Core.List.{List}
 use mathlib.Core.Bool.{Bool, true, false}
 use Prim.Native.Nat.{ℕ, _+_, _-_, _^_, _≤_, _<_}
 use native.Mathlib.Omega.{arith}
-use native.Mathlib.Nat.{mod-eq-of-lt}
 use lib.Dec.{ltb, eqb}
-use lib.ListN.{length, take, drop, take-append-drop}
+use lib.ListN.{length, getD, take, drop}
+use lib.Seq.{length-take-le}
 use borrow.Author.Tests.{eq-eqb, ne-eqb}
 use Rattle.number.specs.Halves.{whole, halves, bits}
 use Rattle.number.specs.Octets.{Octets}
 use Rattle.number.specs.Address.{addressOf, numberOf}
 use Rattle.number.specs.Kept.{keptMin, keptMax, oneFilled}
 use Rattle.number.specs.Shape.{isPrefix}
+use Rattle.number.specs.declared.address.Address.{Address}
 use Rattle.number.specs.declared.halves.Halves.{Halves}
 use Rattle.number.specs.declared.halves.Width.{Width}
 use Rattle.number.specs.declared.refusal.Refusal.{Refusal}
 use Rattle.number.specs.declared.refusal.Refusal.the-variants as refusal
+use Rattle.number.proofs.Picks.{rest-of}
 use Rattle.number.proofs.Sixteen.{width-octets}
 use Rattle.number.proofs.TwoHalves.{halves-whole, whole-halves}
-use Rattle.number.proofs.laws.Address.{address-back}
+use Rattle.number.proofs.laws.Address.{address-is}
+use Rattle.number.proofs.laws.Octets.{octets-part}
 use Rattle.table.specs.Rows.{inHalves}
 use Rattle.table.specs.Spaces.{widthOf}
 use Rattle.table.specs.declared.rows.Row.{Row}
@@ -32,20 +35,26 @@ use Rattle.der.specs.Parts.{is, part}
 use Rattle.der.specs.declared.bits.BitString.{BitString}
 use Rattle.der.specs.declared.heads.Opening.{Opening}
 use Rattle.der.specs.declared.heads.Opening.the-variants as opening
-use Rattle.der.proofs.Tails.{octets-drop, octets-left}
-use Rattle.der.proofs.laws.Bits.{bits-of}
+use Rattle.der.proofs.laws.Bits.{Begins, bits-of}
 use Rattle.values.specs.Faults.{moved}
 use Rattle.values.specs.Forms.{Span, span, none, ranged}
-use Rattle.values.specs.Addresses.{bitsContents, bitsAt, boundsOf, rangeAt, prefixAt, rangeRowAt, spanned}
+use Rattle.values.specs.Addresses.{bitsContents, bitsAt, boundsOf, rangeAt, prefixAt, rangeRowAt, spanned, asPrefix, asRange}
 use Rattle.values.specs.Choices.{listedRow}
-use Rattle.values.specs.Seen.{bitsSeen, BitsIn, boundsSeen, BoundsIn, rangedSeen}
+use Rattle.values.specs.Encode.{formOctets}
+use Rattle.values.specs.Briefs.{placedBits, BriefBits}
+use Rattle.values.specs.Seen.{bitsSeen, BitsIn, boundsSeen, BoundsIn, boundsAtSeen, BoundsAtIn, rangedSeen}
+use Rattle.values.specs.declared.addresses.Brief.{Brief}
 use Rattle.values.specs.declared.addresses.BitsAt.{BitsAt}
 use Rattle.values.specs.declared.addresses.BitsAt.the-variants as string
 use Rattle.values.specs.declared.addresses.Bounds.{Bounds}
 use Rattle.values.specs.declared.addresses.Bounds.the-variants as limit
+use Rattle.values.specs.declared.addresses.BoundsAt.{BoundsAt}
+use Rattle.values.specs.declared.addresses.BoundsAt.the-variants as both
 use Rattle.values.specs.declared.addresses.Ranged.{Ranged}
 use Rattle.values.specs.declared.addresses.Ranged.the-variants as row
 use Rattle.values.proofs.Joins.{Refused, Took, Isnt, tag-refused, tag-isnt, tag-took, tag-place, join-first, join-second, join-over, join-both, sift-refused, sift-isnt, sift-took}
+use Rattle.values.proofs.BriefReads.{both-taken, begun as reads-part}
+use Rattle.values.proofs.laws.Elements.{bits-laws, bounds-laws, form-size}
 use Rattle.values.proofs.RowReads.{row-made, Rowed, row-took}
 
 -- how many bits the numbers of the space a have
@@ -55,14 +64,6 @@ across a = bits (widthOf a)
 -- low and high of a range by the bits of its min and max
 abbrev rangeOf : ℕ → ℕ → Halves → ℕ → Halves → Span
 rangeOf a n min m max = ranged (across a) n (whole min) m (oneFilled (across a) m (whole max))
-
--- octets from k on, n of them
-octets-part : (k n : ℕ) (s : List ℕ) → Octets s → Octets (take n (drop k s))
-octets-part k n s o = octets-left (take n (drop k s)) (drop n (drop k s)) (rw take-append-drop (octets-drop k s o))
-
--- an address of a number that fits is the number's
-address-is : (width : Width) (n : ℕ) → n < 2 ^ bits width → numberOf (addressOf width n) ≡ n
-address-is width n l = address-back width n ∙ mod-eq-of-lt l
 
 -- what `bits::read` answers of contents c: none
 none-read : (width : Width) (o : Bits) → addressed width o .read ≡ false → o ≡ bad
@@ -74,7 +75,7 @@ some-read : (width : Width) (c : List ℕ) → Octets c → (o : Bits) → readB
     → (o ≡ begun (addressed width o .count) (numberOf (addressed width o .address))) × (numberOf (addressed width o .address) < 2 ^ bits width)
 some-read width c b (begun n x) e h =
     let l = bits-of (bits width) n x c (width-octets width .0) b e .1 .below in
-    let v : numberOf (addressOf width x) ≡ x = address-is width x l in
+    let v : numberOf (addressOf width x) ≡ x = address-is width x (addressOf width x) l refl in
     (ap (begun n) (sym v), rw v l)
 some-read width c b bad e h = let z : _≡_ {A = ℕ} 0 1 = cc in absurd (omega arith)
 
@@ -87,7 +88,7 @@ pub record Strung (w : ℕ) (s : List ℕ) (n : ℕ) (x : Halves) (k : ℕ) : Ty
 pub strung : {w : ℕ} {s : List ℕ} {n : ℕ} {x : Halves} {k : ℕ} → Strung w s n x k → (part (n, whole x) (drop k s) ≡ bitsAt w s) × ((whole x < 2 ^ w) × ((0 < k) × (k ≤ length s)))
 strung r = let t = r .ends in (t .told, (r .below, (t .some, t .inside)))
 
--- the ends of `bits_at`
+-- the ends of `any_bits_at`
 module _ {r : Opening} (width : Width) (s : List ℕ) (p : r ≡ openingOf BIT-STRING s) where
   -- the head is refused
   pub bits-refused : (f : Refusal) → r ≡ opening.Bad f → Refused (bitsAt (bits width) s) (length s) f 0
@@ -109,7 +110,37 @@ module _ {r : Opening} (width : Width) (s : List ℕ) (p : r ≡ openingOf BIT-S
         let u : numberOf (b .address) ≡ whole h = sym (ap whole v ∙ whole-halves (numberOf (b .address))) in
         record { ends = tag-took BIT-STRING s p k e q (λ k c. bitsContents (readBits (bits width) c)) (b .count, whole h) (rw u at (ap bitsContents i)); below = rw u at l }
 
--- what `bits_at` answered
+-- what `brief_bits` says of the octets that it took
+module _ (b : Brief) (width : Width) (s : List ℕ) (p : BriefBits (bits width) s b) (l : 0 < b .taken) where
+  -- they are those of bits that begin an address
+  brief-begins : Begins (bits width) (b .count) (placedBits (bits width) (b .bits))
+  brief-begins = let (f, u, z, t) = p .1 l in record { fits = f; below = u; zeros = z }
+
+  -- within s
+  pub brief-inside : b .taken ≤ length s
+  brief-inside = p .1 l .3 .0
+
+  -- and few
+  brief-size : length (formOctets (bits width) (asPrefix (b .count, placedBits (bits width) (b .bits)))) ≤ 40
+  brief-size = form-size (bits width) (asPrefix (b .count, placedBits (bits width) (b .bits))) (width-octets width .1) brief-begins
+
+  brief-few : b .taken ≤ 40
+  brief-few = let t = p .1 l .3 in omega (arith, sym (ap length (t .1)) ∙ length-take-le (b .taken) s (t .0), brief-size)
+
+  -- the address's number
+  brief-number : {a : Address} {h : Halves} → a ≡ addressOf width (placedBits (bits width) (b .bits)) → h ≡ halves (numberOf a) → whole h ≡ placedBits (bits width) (b .bits)
+  brief-number {a} e v = ap whole v ∙ whole-halves (numberOf a) ∙ address-is width (placedBits (bits width) (b .bits)) a (brief-begins .below) e
+
+  -- so they are read as these bits
+  pub bits-brief : {a : Address} {h : Halves} → a ≡ addressOf width (placedBits (bits width) (b .bits)) → h ≡ halves (numberOf a) → Strung (bits width) s (b .count) h (b .taken)
+  bits-brief e v =
+      let u = brief-number e v in
+      record {
+        ends = rw u (reads-part (bits-laws (bits width) (width-octets width .0)) (b .count, placedBits (bits width) (b .bits)) s (b .taken) brief-begins (omega (arith, brief-size)) l (p .1 l .3));
+        below = rw u (brief-begins .below);
+      }
+
+-- what `any_bits_at` or `bits_at` answered
 module _ {r : BitsAt} (w : ℕ) (s : List ℕ) (p : bitsSeen s r ≡ bitsAt w s) (i : BitsIn w (length s) r) where
   -- a refusal
   bits-bad : (f : Refusal) (q : ℕ) → r ≡ string.Bad f q → Refused (bitsAt w s) (length s) f q
@@ -251,41 +282,95 @@ ranged-some a (span x y) r h =
     rw (e, whole-halves x, whole-halves y) (refl, refl)
 ranged-some a none r h = let z : _≡_ {A = ℕ} 0 1 = cc in absurd (omega arith)
 
--- the ends of `range_at`
-module _ {o : Opening} (a : ℕ) (s : List ℕ) (p : o ≡ openingOf SEQUENCE s) where
-  -- the head is refused
-  pub range-refused : (f : Refusal) → o ≡ opening.Bad f → Refused (rangeRowAt (across a) s) (length s) f 0
-  unfolding rangeRowAt rangeAt
-  range-refused f q = sift-refused _ (rangeAt (across a) s) (length s) f 0 (tag-refused SEQUENCE s p _ f q)
+-- min and max of a range that was taken, and addresses of w bits
+pub record Bounded (w : ℕ) (s : List ℕ) (n : ℕ) (x : Halves) (m : ℕ) (y : Halves) (k : ℕ) : Type 0 where
+  pub ends : Took (rangeAt w s) s ((n, whole x), (m, whole y)) k
+  pub min : whole x < 2 ^ w
+  pub max : whole y < 2 ^ w
 
-  module _ {v : Width} {b : Bounds} (k e : ℕ) (q : o ≡ opening.Is k e) (d : v ≡ widthOf a) (g : boundsSeen b ≡ boundsOf (bits v) (take (e - k) (drop k s)))
-      (i : BoundsIn (bits v) (length (take (e - k) (drop k s))) b) where
+-- as a contract has it
+pub bounded : {w : ℕ} {s : List ℕ} {n : ℕ} {x : Halves} {m : ℕ} {y : Halves} {k : ℕ} → Bounded w s n x m y k
+    → (part ((n, whole x), (m, whole y)) (drop k s) ≡ rangeAt w s) × ((whole x < 2 ^ w) × (whole y < 2 ^ w) × ((0 < k) × (k ≤ length s)))
+bounded r = let t = r .ends in (t .told, (r .min, r .max, (t .some, t .inside)))
+
+-- the ends of `any_bounds_at`
+module _ {o : Opening} (s : List ℕ) (p : o ≡ openingOf SEQUENCE s) where
+  -- the head is refused
+  pub any-refused : (w : ℕ) (f : Refusal) → o ≡ opening.Bad f → Refused (rangeAt w s) (length s) f 0
+  unfolding rangeAt
+  any-refused w f q = tag-refused SEQUENCE s p _ f q
+
+  module _ {b : Bounds} (w k e : ℕ) (q : o ≡ opening.Is k e) (g : boundsSeen b ≡ boundsOf w (take (e - k) (drop k s))) (i : BoundsIn w (length (take (e - k) (drop k s))) b) where
     -- the contents are
-    pub range-isnt : (f : Refusal) (j : ℕ) → b ≡ limit.Bad f j → Refused (rangeRowAt (across a) s) (length s) f (k + j)
-    unfolding rangeRowAt rangeAt
-    range-isnt f j h =
-        sift-refused _ (rangeAt (across a) s) (length s) f (k + j)
-        (tag-isnt SEQUENCE s p k e q (λ k c. moved k (boundsOf (across a) c)) f (k + j) (ap (moved k) (sym (rw (h, d) at g))) (tag-place SEQUENCE s p k e q j (rw h at i)))
+    pub any-isnt : (f : Refusal) (j : ℕ) → b ≡ limit.Bad f j → Refused (rangeAt w s) (length s) f (k + j)
+    unfolding rangeAt
+    any-isnt f j h = tag-isnt SEQUENCE s p k e q (λ k c. moved k (boundsOf w c)) f (k + j) (ap (moved k) (sym (rw h at g))) (tag-place SEQUENCE s p k e q j (rw h at i))
 
     -- their place fits
-    pub range-fits : (f : Refusal) (j : ℕ) → b ≡ limit.Bad f j → length s < 2 ^ 64 → k + j < 2 ^ 64
-    range-fits f j h l = omega (arith, range-isnt f j h .inside)
+    pub any-fits : (f : Refusal) (j : ℕ) → b ≡ limit.Bad f j → length s < 2 ^ 64 → k + j < 2 ^ 64
+    any-fits f j h l = omega (arith, any-isnt f j h .inside)
 
-    module _ (n : ℕ) (x : Halves) (m : ℕ) (y : Halves) (h : b ≡ limit.Is n x m y) where
-      -- min and max
-      range-is : Took (rangeAt (across a) s) s ((n, whole x), (m, whole y)) e
-      unfolding rangeAt
-      range-is = tag-took SEQUENCE s p k e q (λ k c. moved k (boundsOf (across a) c)) _ (ap (moved k) (sym (rw (h, d) at g)))
+    -- min and max
+    pub any-took : (n : ℕ) (x : Halves) (m : ℕ) (y : Halves) → b ≡ limit.Is n x m y → Bounded w s n x m y e
+    unfolding rangeAt
+    any-took n x m y h =
+        let (u, v) = rw h at i in
+        record { ends = tag-took SEQUENCE s p k e q (λ k c. moved k (boundsOf w c)) _ (ap (moved k) (sym (rw h at g))); min = u; max = v }
 
-      module _ {r : Ranged} (u : r ≡ rangedSeen a (rangeOf a n x m y)) where
-        -- they are not the one form of a range
-        pub range-none : r ≡ row.No → Refused (rangeRowAt (across a) s) (length s) refusal.RangeForm 0
-        unfolding rangeRowAt
-        range-none z = sift-isnt _ (rangeAt (across a) s) s _ e range-is refusal.RangeForm (ap spanned (ranged-none a (rangeOf a n x m y) (sym z ∙ u)))
+-- the ends of `bounds_at`: two brief BIT STRINGs in a SEQUENCE
+module _ (b d : Brief) (width : Width) (s : List ℕ) (p : BriefBits (bits width) (take (length s - 2) (drop 2 s)) b)
+    (q : BriefBits (bits width) (take (length (take (length s - 2) (drop 2 s)) - b .taken) (drop (b .taken) (take (length s - 2) (drop 2 s)))) d) (l : 0 < b .taken) (m : 0 < d .taken) where
+  -- how many octets they took fits
+  pub both-fit : b .taken + d .taken < 2 ^ 64
+  both-fit = omega (arith, brief-few b width _ p l, brief-few d width _ q m)
 
-        -- a range
-        pub range-took : (w : Row) → r ≡ row.Is w → Rowed (rangeRowAt (across a) s) a s w e
-        unfolding rangeRowAt
-        range-took w z =
-            let (c, l) = ranged-some a (rangeOf a n x m y) w (sym z ∙ u) in
-            row-took (rangeRowAt (across a) s) a s (whole (w .low)) (whole (w .high)) e l (sift-took _ (rangeAt (across a) s) s _ e range-is _ (ap spanned c))
+  -- they are read as a range
+  pub both-took : {v : ℕ} {x y : Address} {low high : Halves} → x ≡ addressOf width (placedBits (bits width) (b .bits)) → low ≡ halves (numberOf x)
+      → y ≡ addressOf width (placedBits (bits width) (d .bits)) → high ≡ halves (numberOf y) → 2 ≤ length s → getD s 0 0 ≡ SEQUENCE → v ≡ getD s 1 0 → b .taken + d .taken ≡ v
+      → Bounded (bits width) s (b .count) low (d .count) high (2 + b .taken + d .taken)
+  both-took {v} f g i j h t e n =
+      let min = brief-number b width _ p l f g in
+      let max = brief-number d width _ q m i j in
+      let x = brief-begins b width _ p l in
+      let y = brief-begins d width _ q m in
+      let r : (ℕ × ℕ) × (ℕ × ℕ) = ((b .count, placedBits (bits width) (b .bits)), (d .count, placedBits (bits width) (d .bits))) in
+      let z = form-size (bits width) (asRange r) (width-octets width .1) (x, y) in
+      let a = rw (rest-of 2 s) at (p .1 l .3) in
+      let c = rw (rest-of 2 s, rest-of (b .taken) (drop 2 s)) at (q .1 m .3) in
+      record {
+        ends =
+            rw (min, max) (reads-part (bounds-laws (bits width) (width-octets width .0)) r s (2 + b .taken + d .taken) (x, y) (omega arith) (omega arith)
+            (rw t at (both-taken s (b .taken) (d .taken) _ _ h (n ∙ e) (omega (arith, brief-few b width _ p l, brief-few d width _ q m)) a c)));
+        min = rw min (x .below);
+        max = rw max (y .below);
+      }
+
+-- the ends of `range_at`: what `bounds_at` answered
+module _ {v : Width} {b : BoundsAt} (a : ℕ) (s : List ℕ) (e : v ≡ widthOf a) (p : boundsAtSeen s b ≡ rangeAt (bits v) s) (i : BoundsAtIn (bits v) (length s) b) where
+  -- a refusal
+  pub range-refused : (f : Refusal) (q : ℕ) → b ≡ both.Bad f q → Refused (rangeRowAt (across a) s) (length s) f q
+  unfolding rangeRowAt
+  range-refused f q h =
+      let r : Refused (rangeAt (bits v) s) (length s) f q = record { told = rw h at p; inside = rw h at i } in
+      sift-refused _ (rangeAt (across a) s) (length s) f q (rw e at r)
+
+  module _ (n : ℕ) (x : Halves) (m : ℕ) (y : Halves) (k : ℕ) (h : b ≡ both.Is n x m y k) where
+    -- min and max
+    range-is : Took (rangeAt (across a) s) s ((n, whole x), (m, whole y)) k
+    range-is =
+        let (u, w, (g, j)) = rw h at i in
+        let t : Took (rangeAt (bits v) s) s ((n, whole x), (m, whole y)) k = record { told = rw h at p; some = g; inside = j } in
+        rw e at t
+
+    module _ {r : Ranged} (u : r ≡ rangedSeen a (rangeOf a n x m y)) where
+      -- they are not the one form of a range
+      pub range-none : r ≡ row.No → Refused (rangeRowAt (across a) s) (length s) refusal.RangeForm 0
+      unfolding rangeRowAt
+      range-none z = sift-isnt _ (rangeAt (across a) s) s _ k range-is refusal.RangeForm (ap spanned (ranged-none a (rangeOf a n x m y) (sym z ∙ u)))
+
+      -- a range
+      pub range-took : (w : Row) → r ≡ row.Is w → Rowed (rangeRowAt (across a) s) a s w k
+      unfolding rangeRowAt
+      range-took w z =
+          let (c, l) = ranged-some a (rangeOf a n x m y) w (sym z ∙ u) in
+          row-took (rangeRowAt (across a) s) a s (whole (w .low)) (whole (w .high)) k l (sift-took _ (rangeAt (across a) s) s _ k range-is _ (ap spanned c))

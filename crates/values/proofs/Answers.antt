@@ -1,5 +1,5 @@
 -- What an answer of the code says of the definition's answer, and of the table. Theorems. Assumes nothing.
---     rows-on, count-on             rows, and then others
+--     rows-on, count-on             rows, and then others.     Denied, Granted      a refusal, and what was read
 --     chosen-bad, chosen-rows       by `ChosenInto`.     counted-bad, counted-rows     by `CountedInto`.      family-bad, family-rows      by `FamilyInto`
 use mathlib.Core.Path.{_≡_, refl, sym, _∙_}
 use mathlib.Core.List.{List, _++_}
@@ -28,7 +28,7 @@ rows-on t n rs qs p e q = q ∙ rw (p, e) (sym (withRows-append t n rs qs))
 pub count-on : (n : ℕ) {m k : ℕ} (rs qs : List Row) → m ≡ n + length rs → k ≡ m + length qs → k ≡ n + length (rs ++ qs)
 count-on n {m} {k} rs qs p q = omega (arith, length-append rs qs)
 
--- a refusal f at q, and the table that stands
+-- a refusal at q, and the table that stands
 pub record Denied {X : Type 0} (m : ℕ) (o no : X) (q : ℕ) (t t′ : List ℕ) : Type 0 where
   pub was : no ≡ o
   pub inside : q ≤ m

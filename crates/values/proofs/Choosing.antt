@@ -1,14 +1,13 @@
 -- What the functions of `choices` answer and leave of the table, at each of their ends. Assumes nothing.
 --     inherit-bad, inherit-contents, inherit-full, inherit-is      `inherit_at`
 --     list-bad, list-isnt, list-fits, list-none, list-some        `list_at`
---     choice-null, choice-list, no-null      `read`
---     open-order, open-inside       where the contents of an element lie
+--     choice-null, choice-list      `read`
 use mathlib.Core.Path.{_≡_, refl, sym, ap, _∙_}
 use mathlib.Core.List.{List, [], _∷_}
 use mathlib.Core.Bool.{Bool, true, false}
 use Prim.Native.Nat.{ℕ, _+_, _-_, _^_, _≤_, _<_}
 use native.Mathlib.Omega.{arith}
-use lib.ListN.{length, getD, take, drop, length-take, length-drop}
+use lib.ListN.{length, getD, take, drop}
 use borrow.Author.Tests.{le-leb, lt-leb, eq-eqb, ne-eqb}
 use Rattle.number.specs.declared.refusal.Refusal.{Refusal}
 use Rattle.number.specs.declared.refusal.Refusal.the-variants as refusal
@@ -22,7 +21,6 @@ use Rattle.der.specs.Parts.{Contents, is, isnt, Part, closed, sifted, filled}
 use Rattle.der.specs.declared.heads.Opening.{Opening}
 use Rattle.der.specs.declared.heads.Opening.the-variants as opening
 use Rattle.der.proofs.Tagged.{tagged-bad, tagged-is}
-use Rattle.der.proofs.laws.Heads.{opens}
 use Rattle.values.specs.Faults.{Fault, at, moved}
 use Rattle.values.specs.Spaces.{spaceNumber}
 use Rattle.values.specs.Elements.{elementsOf}
@@ -33,21 +31,9 @@ use Rattle.values.specs.declared.elements.Counted.{Counted}
 use Rattle.values.specs.declared.elements.Counted.the-variants as counted
 use Rattle.values.specs.declared.choices.Chosen.{Chosen}
 use Rattle.values.specs.declared.choices.Chosen.the-variants as chosen
-use Rattle.values.proofs.Filling.{stands-still, stands-row, counted-place, chosen-is, chosen-not}
-
--- where the contents of an element lie
-module _ {r : Opening} (tag : ℕ) (s : List ℕ) (k e : ℕ) (p : r ≡ openingOf tag s) (q : r ≡ opening.Is k e) where
-  -- they start before they end
-  pub open-order : k ≤ e
-  open-order = opens tag s k e p q .order
-
-  -- and end within s
-  pub open-inside : e ≤ length s
-  open-inside = opens tag s k e p q .inside
-
-  -- a place in them is one in s
-  open-place : (j : ℕ) → j ≤ length (take (e - k) (drop k s)) → k + j ≤ length s
-  open-place j h = omega (arith, open-order, open-inside, simp (length-take, length-drop) at h)
+use Rattle.values.proofs.Joins.{tag-inside, tag-place}
+use Rattle.values.proofs.Filling.{stands-still, stands-row, chosen-is, chosen-not}
+use Rattle.values.proofs.Answers.{counted-bad}
 
 -- INHERIT
 
@@ -78,7 +64,7 @@ module _ (a n : ℕ) (s t : List ℕ) (r : Opening) (p : r ≡ openingOf NULL s)
     unfolding inherited withRows
     inherit-is t′ row h l u w =
         let z : t′ ≡ withRow t n (inheritRow a) = rw u at w in
-        chosen-is a s n t t′ _ _ inherit e (inherit-by (is inherit) (rw (← g, h, lt-leb maxRows n l))) refl (open-inside NULL s k e p q) z (rw z (stands-row t n (inheritRow a) l))
+        chosen-is a s n t t′ _ _ inherit e (inherit-by (is inherit) (rw (← g, h, lt-leb maxRows n l))) refl (tag-inside NULL s p k e q) z (rw z (stands-row t n (inheritRow a) l))
 
 -- A LIST
 
@@ -88,15 +74,6 @@ choiceOf s k e x = sifted (λ rs. is (listed rs)) (closed (filled (at 0 refusal.
 
 -- by what was read of those m octets
 module _ (a n : ℕ) (s t t′ : List ℕ) (k e m : ℕ) (c : Counted) where
-  -- they are refused
-  elements-isnt : (x : Contents (List (ℕ × ℕ)) Fault) → CountedInto (listedRows a) m n t x c t′ → (f : Refusal) (j : ℕ) → c ≡ counted.Bad f j → k + m ≤ length s
-      → ChosenInto a s n t (choiceOf s k e x) (chosen.Bad f (k + j)) t′
-  elements-isnt (is x) (w, u, v) f j d l = let z : _≡_ {A = ℕ} 0 1 = cc in absurd (omega arith)
-  elements-isnt (isnt g) (w, u, v) f j d l =
-      let x : f ≡ g .0 = cc in
-      let y : j ≡ g .1 = cc in
-      (rw (x, y), omega arith, v)
-
   -- there are none
   elements-none : (x : Contents (List (ℕ × ℕ)) Fault) → CountedInto (listedRows a) m n t x c t′ → (j : ℕ) → c ≡ counted.Rows j → j ≡ n
       → ChosenInto a s n t (choiceOf s k e x) (chosen.Bad refusal.EmptyList 0) t′
@@ -136,11 +113,13 @@ module _ (a : Space) (n : ℕ) (s t : List ℕ) (r : Opening) (p : r ≡ opening
     module _ (t′ : List ℕ) (c : Counted) (h : CountedInto (listedRows (spaceNumber a)) (length (take (e - k) (drop k s))) n t (elementsOf a n (take (e - k) (drop k s))) c t′) where
       -- of which an element is refused
       pub list-isnt : (f : Refusal) (j : ℕ) → c ≡ counted.Bad f j → ChosenInto (spaceNumber a) s n t (listedAt a n s) (chosen.Bad f (k + j)) t′
-      list-isnt f j d = rw list-by (elements-isnt (spaceNumber a) n s t t′ k e inner c elements h f j d (open-place SEQUENCE s k e p q inner (omega arith)))
+      list-isnt f j d =
+          let g = counted-bad (listedRows (spaceNumber a)) inner n t t′ c elements h f j d in
+          rw (list-by, ← g .was) (refl, tag-place SEQUENCE s p k e q j (g .inside), g .stands)
 
       -- whose place is in s
       pub list-fits : (f : Refusal) (j : ℕ) → c ≡ counted.Bad f j → length s < 2 ^ 64 → k + j < 2 ^ 64
-      list-fits f j d l = omega (arith, open-place SEQUENCE s k e p q j (counted-place (listedRows (spaceNumber a)) inner n t t′ elements c h f j d))
+      list-fits f j d l = omega (arith, tag-place SEQUENCE s p k e q j (counted-bad (listedRows (spaceNumber a)) inner n t t′ c elements h f j d .inside))
 
       -- of no element
       pub list-none : (j : ℕ) → c ≡ counted.Rows j → j ≡ n → ChosenInto (spaceNumber a) s n t (listedAt a n s) (chosen.Bad refusal.EmptyList 0) t′
@@ -148,7 +127,7 @@ module _ (a : Space) (n : ℕ) (s t : List ℕ) (r : Opening) (p : r ≡ opening
 
       -- of some
       pub list-some : (j : ℕ) → c ≡ counted.Rows j → (j ≡ n → ⊥) → ChosenInto (spaceNumber a) s n t (listedAt a n s) (chosen.Rows j e) t′
-      list-some j d l = rw list-by (elements-some (spaceNumber a) n s t t′ k e inner c elements h j d l (open-inside SEQUENCE s k e p q))
+      list-some j d l = rw list-by (elements-some (spaceNumber a) n s t t′ k e inner c elements h j d l (tag-inside SEQUENCE s p k e q))
 
 -- EITHER
 
@@ -163,8 +142,3 @@ module _ (a : Space) (n : ℕ) (s t t′ : List ℕ) (r : Chosen) where
   pub choice-list : (getD s 0 0 ≡ NULL → ⊥) → ChosenInto (spaceNumber a) s n t (listedAt a n s) r t′ → ChosenInto (spaceNumber a) s n t (choiceAt a n s) r t′
   unfolding choiceAt
   choice-list e h = rw (ne-eqb (getD s 0 0) NULL e) h
-
--- nothing is not NULL
-pub no-null : (s : List ℕ) → length s ≤ 0 → getD s 0 0 ≡ NULL → ⊥
-no-null [] h e = omega arith
-no-null (x ∷ s) h e = omega arith

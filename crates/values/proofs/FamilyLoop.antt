@@ -28,6 +28,7 @@ use Rattle.values.specs.declared.elements.Counted.the-variants as counte
 use Rattle.values.specs.declared.blocks.Family.{Family}
 use Rattle.values.specs.declared.blocks.Family.the-variants as family
 use Rattle.values.proofs.Joins.{tag-refused, tag-isnt, tag-took, tag-place}
+use Rattle.values.proofs.Wholes.{before}
 use Rattle.values.proofs.Filling.{stands-still, stands-on, counted-is, counted-not}
 use Rattle.values.proofs.Answers.{rows-on, count-on, Denied, Granted, family-bad, family-rows}
 
@@ -49,9 +50,7 @@ module _ (σ : Place) (s : List ℕ) (o : Opening) (p : o ≡ openingOf SEQUENCE
     step-got : (a m : ℕ) (c : Choice) → is (a, c) ≡ familyOf (σ .1) (σ .2) (take (e - k) (drop k s)) → m ≡ σ .2 + length (choiceRows a c) → e ≤ length s
         → familyStep σ s ≡ got (a, c) (σ .0 + e, a + 1, m) (drop e s)
     unfolding familyStep admitted familyAt admitFamily
-    step-got a m c h n l =
-        let z : length s - length (drop e s) ≡ e = rw length-drop (omega arith) in
-        rw (← tag-took SEQUENCE s p k e q (λ k c. moved k (familyOf (σ .1) (σ .2) c)) (a, c) (rw (← h) refl) .told, z, n)
+    step-got a m c h n l = rw (← tag-took SEQUENCE s p k e q (λ k c. moved k (familyOf (σ .1) (σ .2) c)) (a, c) (rw (← h) refl) .told, before e s l, n)
 
 -- ROWS OF FAMILIES
 

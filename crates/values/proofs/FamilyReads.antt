@@ -10,10 +10,9 @@ use lib.ListN.{length, take, drop, length-drop}
 use Rattle.number.specs.declared.refusal.Refusal.{Refusal}
 use Rattle.number.specs.declared.refusal.Refusal.the-variants as refusal
 use Rattle.number.proofs.Picks.{rest-of}
-use Rattle.table.specs.Rows.{withRows}
 use Rattle.der.specs.Tags.{SEQUENCE}
 use Rattle.der.specs.Opening.{openingOf}
-use Rattle.der.specs.Parts.{Contents, is, isnt, Part, part, nopart}
+use Rattle.der.specs.Parts.{Contents, Part, part, nopart}
 use Rattle.der.specs.declared.heads.Opening.{Opening}
 use Rattle.der.specs.declared.heads.Opening.the-variants as opening
 use Rattle.values.specs.Faults.{Fault, at, moved}
@@ -21,7 +20,7 @@ use Rattle.values.specs.Choices.{Choice, choiceAt, choiceRows}
 use Rattle.values.specs.Blocks.{spaceAt, familyOf, familiesOf, readBlocks}
 use Rattle.values.specs.Tables.{blocksRows}
 use Rattle.values.specs.Seen.{Reached, spaceSeen, SpaceIn}
-use Rattle.values.specs.Into.{Stands, CountedInto, ChosenInto, FamilyInto}
+use Rattle.values.specs.Into.{CountedInto, ChosenInto, FamilyInto}
 use Rattle.values.specs.declared.elements.Space.the-variants as space
 use Rattle.values.specs.declared.elements.Counted.{Counted}
 use Rattle.values.specs.declared.elements.Counted.the-variants as counted
@@ -29,23 +28,13 @@ use Rattle.values.specs.declared.choices.Chosen.{Chosen}
 use Rattle.values.specs.declared.choices.Chosen.the-variants as chosen
 use Rattle.values.specs.declared.blocks.SpaceAt.{SpaceAt}
 use Rattle.values.specs.declared.blocks.SpaceAt.the-variants as spaceat
-use Rattle.values.specs.declared.blocks.Family.{Family}
 use Rattle.values.specs.declared.blocks.Family.the-variants as family
-use Rattle.values.proofs.Filling.{stands-still}
+use Rattle.values.proofs.Filling.{stands-still, family-is, family-not}
 use Rattle.values.proofs.Wholes.{only-bad, only-over, only-all, paired, two-first, two-second, two-both}
 use Rattle.values.proofs.Answers.{Granted, chosen-bad, chosen-rows}
 use Rattle.values.proofs.ValueReads.{value-bad, value-place, value-isnt, value-over, value-all}
 
 -- A FAMILY
-
-module _ (m n : ℕ) (t t′ : List ℕ) (o : Contents (ℕ × Choice) Fault) (r : Family) where
-  -- a family was read
-  family-is : (a : ℕ) (c : Choice) → is (a, c) ≡ o → r ≡ family.Rows a (n + length (choiceRows a c)) → a ≤ 4095 → t′ ≡ withRows t n (choiceRows a c) → Stands t t′ → FamilyInto m n t o r t′
-  family-is a c e p l q h = rw (← e) (p, l, q, h)
-
-  -- or refused
-  family-not : (q : ℕ) (f : Refusal) → isnt (at q f) ≡ o → r ≡ family.Bad f q → q ≤ m → Stands t t′ → FamilyInto m n t o r t′
-  family-not q f e p l h = rw (← e) (p, l, h)
 
 -- the bounds of its space
 module _ (m : ℕ) (a : SpaceAt) (i : SpaceIn m a) (x k : ℕ) (e : a ≡ spaceat.Is x k) where

@@ -1,12 +1,10 @@
 -- What a reader answers and leaves of the table, by the cases of its definition's answer. Assumes nothing.
 --     counted-is, counted-not      `CountedInto` where all was read, and where there is a refusal
---     counted-place                the place of that refusal
---     chosen-is, chosen-not        `ChosenInto` likewise
+--     chosen-is, chosen-not        `ChosenInto` likewise.      family-is, family-not        `FamilyInto`
 --     stands-still, stands-row, stands-on     a table that nothing was written to, one with a row more, and one thing after another
 use mathlib.Core.Path.{_≡_, refl, _∙_}
 use mathlib.Core.List.{List}
 use Prim.Native.Nat.{ℕ, _+_, _≤_, _<_}
-use native.Mathlib.Omega.{arith}
 use lib.ListN.{length, drop}
 use Rattle.number.specs.declared.refusal.Refusal.{Refusal}
 use Rattle.table.specs.Sizes.{maxRows}
@@ -15,11 +13,13 @@ use Rattle.table.proofs.laws.Rows.{length-withRow, withRow-later}
 use Rattle.der.specs.Parts.{Contents, is, isnt, Part, part, nopart}
 use Rattle.values.specs.Faults.{Fault, at}
 use Rattle.values.specs.Choices.{Choice, choiceRows}
-use Rattle.values.specs.Into.{Stands, CountedInto, ChosenInto}
+use Rattle.values.specs.Into.{Stands, CountedInto, ChosenInto, FamilyInto}
 use Rattle.values.specs.declared.elements.Counted.{Counted}
 use Rattle.values.specs.declared.elements.Counted.the-variants as counted
 use Rattle.values.specs.declared.choices.Chosen.{Chosen}
 use Rattle.values.specs.declared.choices.Chosen.the-variants as chosen
+use Rattle.values.specs.declared.blocks.Family.{Family}
+use Rattle.values.specs.declared.blocks.Family.the-variants as family
 
 -- nothing was written
 pub stands-still : (t : List ℕ) → Stands t t
@@ -42,11 +42,6 @@ module _ {X : Type 0} (rows : X → List Row) (m n : ℕ) (t t′ : List ℕ) (o
   pub counted-not : (p : ℕ) (f : Refusal) → isnt (at p f) ≡ o → r ≡ counted.Bad f p → p ≤ m → Stands t t′ → CountedInto rows m n t o r t′
   counted-not p f e q l h = rw (← e) (q, l, h)
 
--- the place of a refusal is within what was read
-pub counted-place : {X : Type 0} (rows : X → List Row) (m n : ℕ) (t t′ : List ℕ) (o : Contents X Fault) (r : Counted) → CountedInto rows m n t o r t′ → (f : Refusal) (p : ℕ) → r ≡ counted.Bad f p → p ≤ m
-counted-place rows m n t t′ (is x) r (e, u, h) f p q = let z : _≡_ {A = ℕ} 0 1 = cc in absurd (omega arith)
-counted-place rows m n t t′ (isnt g) r (e, l, h) f p q = let z : p ≡ g .1 = cc in omega arith
-
 module _ (a : ℕ) (s : List ℕ) (n : ℕ) (t t′ : List ℕ) (o : Part Choice Fault) (r : Chosen) where
   -- a choice, in the octets up to an end
   pub chosen-is : (c : Choice) (end : ℕ) → o ≡ part c (drop end s) → r ≡ chosen.Rows (n + length (choiceRows a c)) end → end ≤ length s → t′ ≡ withRows t n (choiceRows a c) → Stands t t′
@@ -56,3 +51,12 @@ module _ (a : ℕ) (s : List ℕ) (n : ℕ) (t t′ : List ℕ) (o : Part Choice
   -- a refusal
   pub chosen-not : (p : ℕ) (f : Refusal) → o ≡ nopart (at p f) → r ≡ chosen.Bad f p → p ≤ length s → Stands t t′ → ChosenInto a s n t o r t′
   chosen-not p f e q l h = rw e (q, l, h)
+
+module _ (m n : ℕ) (t t′ : List ℕ) (o : Contents (ℕ × Choice) Fault) (r : Family) where
+  -- a family was read
+  pub family-is : (a : ℕ) (c : Choice) → is (a, c) ≡ o → r ≡ family.Rows a (n + length (choiceRows a c)) → a ≤ 4095 → t′ ≡ withRows t n (choiceRows a c) → Stands t t′ → FamilyInto m n t o r t′
+  family-is a c e p l q h = rw (← e) (p, l, q, h)
+
+  -- or refused
+  pub family-not : (q : ℕ) (f : Refusal) → isnt (at q f) ≡ o → r ≡ family.Bad f q → q ≤ m → Stands t t′ → FamilyInto m n t o r t′
+  family-not q f e p l h = rw (← e) (p, l, h)

@@ -1,23 +1,26 @@
 -- What the code of `ids` finds at each of its ends, in the terms of the definitions: for AS numbers and routing domain identifiers alike, over the number of the space. Theorems. Assumes nothing.
---     id-halves, range-made, none-made     the rows.       integer-..      `integer_at`.       pair-..     `pair_of` and `pair_at`
---     number-..    a number's row.     span-..     a range's row
+--     id-halves, range-made, none-made     the rows.       integer-..      `any_integer_at`.       pair-..     `pair_of`, `any_pair_at` and `pair_at`
+--     number-..    `brief_number`, and a number's row.     brief-..    what `brief_number` says.     span-..     a range's row
 use mathlib.Core.Path.{_≡_, refl, sym, ap, _∙_}
 use mathlib.Core.List.{List}
-use Prim.Native.Nat.{ℕ, _+_, _-_, _^_, _≤_, _<_}
+use mathlib.Core.Bool.{Bool, true}
+use Prim.Native.Nat.{ℕ, _+_, _-_, _*_, _/_, _^_, _≤_, _<_}
 use native.Mathlib.Omega.{arith}
 use lib.Dec.{ltb}
-use lib.ListN.{length, take, drop}
+use lib.ListN.{length, getD, take, drop, length-take, length-drop}
 use borrow.Author.Tests.{lt-ltb, le-ltb}
 use Rattle.number.specs.Halves.{halves}
+use Rattle.number.specs.Octets.{Octets, value, octets}
 use Rattle.number.specs.declared.halves.Halves.{Halves}
 use Rattle.number.specs.declared.refusal.Refusal.{Refusal}
 use Rattle.number.specs.declared.refusal.Refusal.the-variants as refusal
 use Rattle.number.proofs.Cuts.{made}
-use Rattle.number.proofs.Picks.{pick-not, pick-is}
+use Rattle.number.proofs.Picks.{pick-not, pick-is, rest-of}
+use Rattle.number.proofs.laws.Octets.{value-octets, octets-part}
 use Rattle.table.specs.Rows.{inHalves}
 use Rattle.table.specs.declared.rows.Row.{Row}
 use Rattle.der.specs.Tags.{INTEGER, SEQUENCE}
-use Rattle.der.specs.Integer.{integerOf}
+use Rattle.der.specs.Integer.{integerOf, integerSize, integerOctets}
 use Rattle.der.specs.Opening.{openingOf}
 use Rattle.der.specs.Parts.{is, isnt}
 use Rattle.der.specs.declared.heads.Opening.{Opening}
@@ -28,6 +31,8 @@ use Rattle.values.specs.Faults.{at, moved}
 use Rattle.values.specs.Choices.{listedRow}
 use Rattle.values.specs.Ids.{integerContents, integerAt, pairOf, pairAt, apart, numberAt, rangeAt}
 use Rattle.values.specs.Seen.{integerSeen, IntegerIn, pairSeen, PairIn, pairAtSeen, PairAtIn, rangeSeen}
+use Rattle.values.specs.Briefs.{isBrief, BriefNumber}
+use Rattle.values.specs.declared.ids.Brief.{Brief}
 use Rattle.values.specs.declared.ids.IntegerAt.{IntegerAt}
 use Rattle.values.specs.declared.ids.IntegerAt.the-variants as number
 use Rattle.values.specs.declared.ids.Pair.{Pair}
@@ -38,6 +43,8 @@ use Rattle.values.specs.declared.ids.Listed.{Listed}
 use Rattle.values.specs.declared.ids.Listed.the-variants as row
 use Rattle.values.proofs.Joins.{Refused, Took, Isnt, tag-refused, tag-isnt, tag-took, tag-place, join-first, join-second, join-over, join-both, sift-refused, sift-isnt, sift-took}
 use Rattle.values.proofs.RowReads.{Rowed, row-took}
+use Rattle.values.proofs.BriefReads.{brief-long, brief-tag, brief-least, brief-most, headed, both-taken, of-eight, begun}
+use Rattle.values.proofs.laws.Elements.{integer-laws, pair-laws, number-size, pair-size}
 
 -- a number of 32 bits in halves
 pub id-halves : (n : ℕ) → n < 2 ^ 32 → _≡_ {A = Halves} (record { upper = 0; lower = n }) (halves n)
@@ -55,7 +62,7 @@ none-made a x y h = rw (le-ltb x y h)
 no-row : {r : Row} → row.Is r ≡ row.No → ⊥
 no-row e = let z : _≡_ {A = ℕ} 0 1 = cc in omega arith
 
--- the ends of `integer_at`
+-- the ends of `any_integer_at`
 module _ {r : Opening} (s : List ℕ) (p : r ≡ openingOf INTEGER s) where
   -- the head is refused
   pub integer-refused : (f : Refusal) → r ≡ opening.Bad f → Refused (integerAt s) (length s) f 0
@@ -73,7 +80,67 @@ module _ {r : Opening} (s : List ℕ) (p : r ≡ openingOf INTEGER s) where
     unfolding integerAt
     integer-took n h = tag-took INTEGER s p k e q (λ k c. integerContents (integerOf c)) n (rw (← g, h) refl)
 
--- what `integer_at` answered
+-- the ends of `brief_number`
+module _ {r : Bool} {n : ℕ} (s : List ℕ) (p : r ≡ isBrief INTEGER 1 5 s) (y : r ≡ true) (q : n ≡ getD s 1 0) where
+  -- it has at most five octets
+  number-few : n ≤ 5
+  number-few = omega (arith, brief-most INTEGER 1 5 s p y)
+
+  -- their bits are bits of a word
+  pub number-within : 8 * n ≤ 64
+  number-within = omega (arith, number-few)
+
+  -- and it has some
+  pub number-some : 64 - 8 * n < 64
+  number-some = omega (arith, brief-least INTEGER 1 5 s p y)
+
+  -- a number that takes n octets
+  pub number-taken : {v z : ℕ} → Octets s → v ≡ value (take 8 (take 8 (drop 2 s))) → v / 2 ^ (64 - 8 * n) ≤ 4294967295 → z ≡ integerSize (v / 2 ^ (64 - 8 * n)) → z ≡ n
+      → BriefNumber s (record { taken = 2 + n; number = v / 2 ^ (64 - 8 * n) })
+  unfolding integerOctets
+  number-taken {v} {z} b e l f g some =
+      let h = brief-long INTEGER 1 5 s p y in
+      let c = take n (drop 2 s) in
+      let i : length c ≡ n = omega (arith, number-few, length-take n (drop 2 s), length-drop 2 s) in
+      let x : v / 2 ^ (64 - 8 * n) ≡ value c = ap (λ (t : ℕ). t / 2 ^ (64 - 8 * n)) e ∙ of-eight n 2 s b (omega (arith, number-few)) (omega arith) in
+      let w : octets (integerSize (v / 2 ^ (64 - 8 * n))) (v / 2 ^ (64 - 8 * n)) ≡ c = rw (← f, g, x) (rw i at (value-octets c (octets-part 2 n s b))) in
+      (l, (omega (arith, number-few), rw w (rw (brief-tag INTEGER 1 5 s p y) at (headed n s (omega (arith, number-few)) (sym q) (omega (arith, number-few))))))
+
+-- what `brief_number` took
+module _ {b : Brief} (s : List ℕ) (p : BriefNumber s b) (l : 0 < b .taken) where
+  -- an INTEGER
+  pub brief-took : Took (integerAt s) s (b .number) (b .taken)
+  brief-took = let (m, f) = p l in begun integer-laws (b .number) s (b .taken) m (omega (arith, number-size (b .number))) l f
+
+  -- within s
+  pub brief-inside : b .taken ≤ length s
+  brief-inside = brief-took .inside
+
+  -- of few octets
+  brief-few : b .taken ≤ 19
+  brief-few =
+      let (m, f) = p l in
+      let i : length (take (b .taken) s) ≤ 19 = rw (f .1) (number-size (b .number)) in
+      omega (arith, length-take (b .taken) s)
+
+-- two of them, the second right after the first
+module _ {b d : Brief} (s : List ℕ) (p : BriefNumber (take (length s - 2) (drop 2 s)) b) (l : 0 < b .taken)
+    (q : BriefNumber (take (length (take (length s - 2) (drop 2 s)) - b .taken) (drop (b .taken) (take (length s - 2) (drop 2 s)))) d) (m : 0 < d .taken) where
+  -- both are few octets
+  pub pair-few : b .taken + d .taken < 2 ^ 64
+  pair-few = omega (arith, brief-few _ p l, brief-few _ q m)
+
+  -- in a SEQUENCE
+  pub pair-brief : 2 ≤ length s → getD s 0 0 ≡ SEQUENCE → b .taken + d .taken ≡ getD s 1 0 → Took (pairAt s) s (b .number, d .number) (2 + b .taken + d .taken)
+  pair-brief h t e =
+      let u : take (length s - 2) (drop 2 s) ≡ drop 2 s = rest-of 2 s in
+      let (x, g) = rw u at (p l) in
+      let v : take (length (drop 2 s) - b .taken) (drop (b .taken) (drop 2 s)) ≡ drop (b .taken) (drop 2 s) = rest-of (b .taken) (drop 2 s) in
+      let (y, i) = rw (u, v) at (q m) in
+      let k : b .taken + d .taken < 128 = omega (arith, brief-few _ p l, brief-few _ q m) in
+      begun pair-laws (b .number, d .number) s (2 + b .taken + d .taken) (x, y) (omega (arith, pair-size (b .number, d .number))) (omega arith) (rw t at (both-taken s (b .taken) (d .taken) _ _ h e k g i))
+
+-- what `integer_at` or `any_integer_at` answered
 module _ {r : IntegerAt} (s : List ℕ) (p : integerSeen s r ≡ integerAt s) (i : IntegerIn (length s) r) where
   -- a refusal
   integer-bad : (f : Refusal) (q : ℕ) → r ≡ number.Bad f q → Refused (integerAt s) (length s) f q
@@ -129,7 +196,7 @@ module _ {r : IntegerAt} (s : List ℕ) (p : integerSeen s r ≡ integerAt s) (i
   unfolding numberAt
   number-took a x k h g = row-took (numberAt s) a s x x k g (sift-took _ (integerAt s) s x k (integer-is s p i x k h) (x, x) refl)
 
--- the ends of `pair_at`
+-- the ends of `any_pair_at`
 module _ {o : Opening} (s : List ℕ) (p : o ≡ openingOf SEQUENCE s) where
   -- the head is refused
   pub pair-refused : (f : Refusal) → o ≡ opening.Bad f → Refused (pairAt s) (length s) f 0

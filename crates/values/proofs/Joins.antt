@@ -1,6 +1,6 @@
 -- Readers made of smaller ones, by what the code says of each part. Theorems. Assumes nothing.
 --     Refused, Took, Isnt      what a reader answers: of the part that s begins with, and of contents. refused, took, isnt-so      the same as a contract has it
---     tag-order, tag-inside, tag-place     where the contents of an element lie
+--     no-tag, tag-order, tag-inside, tag-place     no octets have a tag; where the contents of an element lie
 --     tag-refused, tag-isnt, tag-took      an element by its tag, at each end of its reader
 --     join-first, join-second, join-over, join-both    one part, then another, then nothing
 --     sift-refused, sift-isnt, sift-took       what was read, seen as something else
@@ -8,17 +8,18 @@ use mathlib.Core.Path.{_≡_, refl, sym, ap, _∙_}
 use mathlib.Core.List.{List, [], _∷_}
 use Prim.Native.Nat.{ℕ, _+_, _-_, _≤_, _<_}
 use native.Mathlib.Omega.{arith}
-use lib.ListN.{length, take, drop, length-take, length-drop}
+use lib.ListN.{length, getD, take, drop, length-take, length-drop}
 use Rattle.number.specs.declared.refusal.Refusal.{Refusal}
 use Rattle.number.specs.declared.refusal.Refusal.the-variants as refusal
 use Rattle.number.proofs.Picks.{rest-of}
 use Rattle.der.specs.Opening.{openingOf}
-use Rattle.der.specs.Parts.{Contents, is, isnt, Part, part, nopart, closed, tagged, two, ended, only, sifted}
+use Rattle.der.specs.Parts.{Contents, is, isnt, Part, part, nopart, closed, tagged, only, sifted}
 use Rattle.der.specs.declared.heads.Opening.{Opening}
 use Rattle.der.specs.declared.heads.Opening.the-variants.{Is, Bad}
 use Rattle.der.proofs.Tagged.{tagged-bad, tagged-is}
 use Rattle.der.proofs.laws.Heads.{opens}
-use Rattle.values.specs.Faults.{Fault, at, movedPart}
+use Rattle.values.specs.Faults.{Fault, at}
+use Rattle.values.proofs.Wholes.{over, only-bad, only-over, only-all, paired, two-first, two-second, two-both}
 
 -- the part o that n octets begin with is refused, at the place q
 pub record Refused {X : Type 0} (o : Part X Fault) (n : ℕ) (f : Refusal) (q : ℕ) : Type 0 where
@@ -45,6 +46,11 @@ took t = (t .told, (t .some, t .inside))
 
 pub isnt-so : {X : Type 0} {o : Contents X Fault} {n : ℕ} {f : Refusal} {q : ℕ} → Isnt o n f q → (isnt (at q f) ≡ o) × (q ≤ n)
 isnt-so r = (r .told, r .inside)
+
+-- nothing begins with no tag
+pub no-tag : (s : List ℕ) (t : ℕ) → 0 < t → length s ≤ 0 → getD s 0 0 ≡ t → ⊥
+no-tag [] t h l e = omega arith
+no-tag (b ∷ s) t h l e = omega arith
 
 -- an element with the tag t: the code's opening
 module _ {r : Opening} (t : ℕ) (s : List ℕ) (p : r ≡ openingOf t s) where
@@ -79,60 +85,41 @@ module _ {r : Opening} (t : ℕ) (s : List ℕ) (p : r ≡ openingOf t s) where
             inside = tag-inside;
           }
 
--- what is left where there is something, and where there is nothing
-module _ {X E : Type 0} (over : ℕ → E) (n : ℕ) (x : X) where
-  ended-over : (l : List ℕ) → 0 < length l → isnt (over (n - length l)) ≡ ended over n (part x l)
-  ended-over [] h = absurd (omega arith)
-  ended-over (b ∷ l) h = refl
-
-  ended-is : (l : List ℕ) → length l ≡ 0 → is x ≡ ended over n (part x l)
-  ended-is [] h = refl
-  ended-is (b ∷ l) h = absurd (omega arith)
-
 -- one part, then another, then nothing
 abbrev pub joined : {X Y : Type 0} → (List ℕ → Part X Fault) → (X → List ℕ → Part Y Fault) → List ℕ → Contents (X × Y) Fault
-joined dec next = only (λ j. at j refusal.OctetsLeft) (two dec (λ j x rest. movedPart j (next x rest)))
+joined dec next = only over (paired dec next)
 
 module _ {X Y : Type 0} (dec : List ℕ → Part X Fault) (next : X → List ℕ → Part Y Fault) (s : List ℕ) where
   -- the first part is refused
   pub join-first : (f : Refusal) (q : ℕ) → Refused (dec s) (length s) f q → Isnt (joined dec next s) (length s) f q
-  unfolding only two
-  join-first f q r = record { told = rw (← r .told) refl; inside = r .inside }
+  join-first f q r = record { told = only-bad (paired dec next) s (at q f) (two-first dec next s (at q f) (r .told)); inside = r .inside }
 
   module _ (x : X) (k : ℕ) (t : Took (dec s) s x k) where
-    -- the octets that the first part took
-    before : length s - length (drop k s) ≡ k
-    before = let l = t .inside in simp length-drop (omega arith)
-
     -- the second part is refused: it is read in `&s[k..]`
     pub join-second : (f : Refusal) (q : ℕ) → Refused (next x (take (length s - k) (drop k s))) (length (take (length s - k) (drop k s))) f q → Isnt (joined dec next s) (length s) f (k + q)
-    unfolding only two
     join-second f q h =
         let r = rw rest-of at h in
-        record { told = rw (← t .told, before, ← r .told) refl; inside = omega (arith, t .inside, r .inside, length-drop k s) }
+        record {
+          told = only-bad (paired dec next) s (at (k + q) f) (two-second dec next s x k (t .told) (t .inside) (at q f) (r .told));
+          inside = omega (arith, t .inside, r .inside, length-drop k s);
+        }
 
     module _ (y : Y) (j : ℕ) (h : Took (next x (take (length s - k) (drop k s))) (take (length s - k) (drop k s)) y j) where
+      both : part (x, y) (drop (k + j) s) ≡ paired dec next s
+      both = let u = rw rest-of at h in two-both dec next s x k (t .told) (t .inside) y j (u .told)
+
       -- octets are left
       pub join-over : j < length (take (length s - k) (drop k s)) → Isnt (joined dec next s) (length s) refusal.OctetsLeft (k + j)
-      unfolding only two
       join-over g =
-          let u = rw rest-of at h in
           let i : j < length (drop k s) = rw rest-of at g in
-          let d = length-drop k s in
-          let n : length (drop j (drop k s)) ≡ length s - (k + j) = simp length-drop (omega arith) in
-          let m : length s - (length s - (k + j)) ≡ k + j = omega (arith, t .inside) in
-          record {
-            told = rw (← t .told, before, ← u .told, ← ended-over _ _ _ (drop j (drop k s)) (omega arith), n, m) refl;
-            inside = omega (arith, t .inside);
-          }
+          let l : k + j < length s = omega (arith, length-drop k s) in
+          record { told = only-over (paired dec next) s (x, y) (k + j) both l; inside = omega arith }
 
       -- both, and nothing after them
       pub join-both : length (take (length s - k) (drop k s)) ≤ j → is (x, y) ≡ joined dec next s
-      unfolding only two
       join-both g =
-          let u = rw rest-of at h in
           let i : length (drop k s) ≤ j = rw rest-of at g in
-          rw (← t .told, before, ← u .told) (ended-is _ _ _ (drop j (drop k s)) (simp length-drop (omega (arith, length-drop k s))))
+          only-all (paired dec next) s (x, y) (k + j) both (omega (arith, length-drop k s))
 
 -- what was read, seen as something else
 module _ {X Y : Type 0} (f : X → Contents Y Fault) (o : Part X Fault) where

@@ -1,5 +1,7 @@
 pub mod AddressReads
 pub mod Answers
+pub mod BitReads
+pub mod BriefReads
 pub mod Choosing
 pub mod FamilyLoop
 pub mod FamilyReads

@@ -1,13 +1,12 @@
 -- What the functions of `elements` answer and leave of the table, and the loop of `read`. Assumes nothing.
 --     an-address, an-as, an-rdi       `element`
 --     least-first, least-later        `early`
---     listed-length                   as many rows as elements
 --     Reading, reading-start, reading-bad, reading-early, reading-full, reading-turn, reading-end      the invariant of `read`, and its places
 --     found-end, fault-fits, turn-less       the numbers in its loop
 use mathlib.Core.Path.{_≡_, refl, sym, ap, _∙_}
 use mathlib.Core.List.{List, [], _∷_, _++_}
 use mathlib.Core.Bool.{Bool, true, false, not}
-use Prim.Native.Nat.{ℕ, suc, _+_, _-_, _≤_, _<_, _^_}
+use Prim.Native.Nat.{ℕ, _+_, _-_, _≤_, _<_, _^_}
 use native.Mathlib.Omega.{arith}
 use lib.ListN.{length, take, drop, length-drop, length-append}
 use lib.Dec.{ltb}
@@ -40,6 +39,8 @@ use Rattle.values.specs.declared.elements.Counted.{Counted}
 use Rattle.values.specs.declared.elements.Counted.the-variants as counted
 use Rattle.values.specs.declared.addresses.Found.{Found}
 use Rattle.values.specs.declared.addresses.Found.the-variants as found
+use Rattle.values.proofs.laws.Choices.{listed-length}
+use Rattle.values.proofs.Wholes.{before}
 use Rattle.values.proofs.Filling.{stands-still, stands-row, stands-on, counted-is, counted-not}
 
 -- THE ORDER
@@ -101,9 +102,7 @@ module _ (a : Space) (σ : Place) (s : List ℕ) (r : Found) (e : foundSeen s r 
     step-row : ltb (whole (row .low)) (σ .1) ≡ false → σ .2 < maxRows → k ≤ length s
         → elementStep a σ s ≡ got (whole (row .low), whole (row .high)) (σ .0 + k, whole (row .high) + 2, σ .2 + 1) (drop k s)
     unfolding elementStep admitted admitRow
-    step-row h l m =
-        let z : length s - length (drop k s) ≡ k = rw length-drop (omega arith) in
-        rw (← e, p, h, lt-leb maxRows (σ .2) l, z)
+    step-row h l m = rw (← e, p, h, lt-leb maxRows (σ .2) l, before k s m)
 
 -- what is said of its numbers
 module _ (a m : ℕ) (r : Found) (h : FoundIn a m r) where
@@ -124,11 +123,6 @@ found-seen : (a m : ℕ) (r : Found) (row : code.Row) (k : ℕ) → FoundIn a m 
 found-seen a m r row k h p = let (x, y, z) = found-row a m r h row k p in rw (x, y)
 
 -- ROWS OF A LIST
-
--- as many rows as elements
-pub listed-length : (a : ℕ) (xs : List (ℕ × ℕ)) → length (listedRows a xs) ≡ length xs
-listed-length a [] = refl
-listed-length a (x ∷ xs) = ap suc (listed-length a xs)
 
 -- one more
 listed-snoc : (a : ℕ) (xs : List (ℕ × ℕ)) (x : ℕ × ℕ) → listedRows a (xs ++ (x ∷ [])) ≡ listedRows a xs ++ (listedRow a x ∷ [])

@@ -1,7 +1,7 @@
 -- What the functions of `identifiers` answer and leave of the table, at each of their ends. Theorems. Assumes nothing.
 --     member-bad, member-isnt, member-over, member-all      `member`
 --     last-isnt, last-over, last-all      `last`.      first-isnt, first-alone, first-last, first-both       `first`
---     members-first, members-last, no-first     `members`.     ids-bad, ids-none, ids-isnt, ids-over, ids-all     `read`
+--     members-first, members-last     `members`.     ids-bad, ids-none, ids-isnt, ids-over, ids-all     `read`
 --     member-fits, first-fits, ids-fits      their numbers
 use mathlib.Core.Path.{_≡_, refl, sym, ap, _∙_}
 use mathlib.Core.List.{List, [], _∷_}
@@ -34,7 +34,7 @@ use Rattle.values.specs.declared.choices.Chosen.{Chosen}
 use Rattle.values.specs.declared.choices.Chosen.the-variants as chosen
 use Rattle.values.proofs.Joins.{tag-refused, tag-isnt, tag-took, tag-place, tag-inside}
 use Rattle.values.proofs.Filling.{stands-still, stands-on, counted-is, counted-not, chosen-is, chosen-not}
-use Rattle.values.proofs.Wholes.{only-bad, only-over, only-all}
+use Rattle.values.proofs.Wholes.{before, only-bad, only-over, only-all}
 use Rattle.values.proofs.ValueReads.{value-bad, value-none, value-place, value-isnt, value-over, value-all}
 use Rattle.values.proofs.Answers.{rows-on, count-on, chosen-bad, chosen-rows, counted-bad, counted-rows}
 
@@ -154,9 +154,7 @@ module _ (n : ℕ) (s t t′ : List ℕ) (r : Chosen) (h : ChosenInto asNumbers 
       -- by what it is
       first-by : (c : Choice) → part c (drop e s) ≡ memberAt ASNUM space.AsNumbers n s → m ≡ n + length (choiceRows asNumbers c) → moved e (taken (both c) (lastOf m (drop e s))) ≡ firstOf n s
       unfolding firstOf
-      first-by c w q =
-          let d : length s - length (drop e s) ≡ e = rw length-drop (omega arith) in
-          rw (d, ← q) at (after-more n (length s) c (drop e s) (rw length-drop (omega arith))) ∙ ap (after n (length s)) w
+      first-by c w q = rw (before e s (omega arith), ← q) at (after-more n (length s) c (drop e s) (rw length-drop (omega arith))) ∙ ap (after n (length s)) w
 
       -- its place
       first-place : (f : Refusal) (j : ℕ) → z ≡ counted.Bad f j → e + j ≤ length s
@@ -202,11 +200,6 @@ module _ (n : ℕ) (s t t′ : List ℕ) (r : Counted) where
   pub members-last : (getD s 0 0 ≡ ASNUM → ⊥) → CountedInto (choiceRows routingDomains) (length s) n t (lastOf n s) r t′ → CountedInto identifiersRows (length s) n t (membersOf n s) r t′
   unfolding membersOf
   members-last e h = rw (ne-eqb (getD s 0 0) ASNUM e) (as-domains (lastOf n s) h)
-
--- nothing is not [0]
-pub no-first : (s : List ℕ) → length s ≤ 0 → getD s 0 0 ≡ ASNUM → ⊥
-no-first [] h e = omega arith
-no-first (x ∷ s) h e = omega arith
 
 -- THE VALUE
 

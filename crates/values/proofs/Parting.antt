@@ -1,16 +1,15 @@
 -- The octets at fault: which they are, where they lie, and that the place is in the value. Theorems. Assumes nothing.
-use mathlib.Core.Path.{_≡_, refl, sym, ap, _∙_}
+use mathlib.Core.Path.{_≡_, sym, ap, _∙_}
 use mathlib.Core.List.{List, []}
 use mathlib.Core.Bool.{Bool, true, false}
 use Prim.Native.Nat.{ℕ, _+_, _-_, _≤_}
-use native.Mathlib.Omega.{arith}
 use lib.ListN.{length, take, drop}
 use borrow.Author.Tests.{eq-eqb, ne-eqb}
 use Rattle.number.proofs.Picks.{rest-of}
 use Rattle.values.specs.Limits.{ipExtension}
 use Rattle.values.specs.Inside.{BothIn}
 use Rattle.values.specs.Readings.{Left, readBoth}
-use Rattle.values.specs.Parted.{hasOctets, chosen, faultOctets, faultPointer}
+use Rattle.values.specs.Parted.{hasOctets, faultOctets, faultPointer}
 use Rattle.values.specs.declared.readings.Refused as refused
 use Rattle.values.specs.declared.readings.Reading.{Reading}
 use Rattle.values.specs.declared.readings.Reading.the-variants as reading

@@ -1,15 +1,10 @@
 -- The rows that the readers of elements make: addresses, AS numbers and routing domain identifiers alike. Theorems. Assumes nothing.
 --     row-made     a row by its two ends
 --     Rowed, rowed, row-took       an element that was taken, and its row
---     no-tag       nothing begins with no tag
 use mathlib.Core.Path.{_≡_, refl}
-use mathlib.Core.List.{List, [], _∷_}
-use mathlib.Core.Bool.{false}
+use mathlib.Core.List.{List}
 use Prim.Native.Nat.{ℕ, _≤_, _<_}
-use native.Mathlib.Omega.{arith}
-use lib.ListN.{length, drop, getD}
-use lib.Dec.{eqb}
-use borrow.Author.Tests.{ne-eqb}
+use lib.ListN.{length, drop}
 use Rattle.number.specs.Halves.{whole, halves}
 use Rattle.number.specs.declared.halves.Halves.{Halves}
 use Rattle.number.proofs.TwoHalves.{whole-halves}
@@ -38,8 +33,3 @@ rowed r = let t = r .ends in (t .told, (r .own, r .lists, (t .some, t .inside)))
 -- by its two ends
 pub row-took : {row : Row} (o : Part (ℕ × ℕ) Fault) (a : ℕ) (s : List ℕ) (x y k : ℕ) → row ≡ inHalves (listedRow a (x, y)) → Took o s (x, y) k → Rowed o a s row k
 row-took o a s x y k p t = rw p (record { ends = rw (whole-halves x, whole-halves y) t; own = refl; lists = refl })
-
--- nothing begins with no tag
-pub no-tag : (s : List ℕ) (t : ℕ) → 0 < t → length s ≤ 0 → eqb (getD s 0 0) t ≡ false
-no-tag [] t h l = ne-eqb 0 t (λ e. omega arith)
-no-tag (b ∷ s) t h l = absurd (omega arith)

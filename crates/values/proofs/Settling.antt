@@ -1,18 +1,16 @@
 -- What the readers answer and leave, by what was counted. Theorems. Assumes nothing.
---     settle       the rows that were counted, or a refusal and zeros, are what the definition says
---     step-..      the exits of a step;   alone-..   of a reader alone;   both-..   of both values
-use mathlib.Core.Path.{_≡_, refl, sym, ap, ap₂, _∙_}
+--     answer-..    the exits of `answer`;   ip-.., as-..   of a step;   read-ip-.., read-as-..   of a reader alone;   after-.., both-..   of both values
+--     ip-in-.., as-in-.., both-in-..       the places of their refusals
+use mathlib.Core.Path.{_≡_, refl, sym, ap, _∙_}
 use mathlib.Core.List.{List}
-use Prim.Native.Nat.{ℕ, _+_, _≤_, _<_, min}
+use Prim.Native.Nat.{ℕ, _≤_, _<_}
 use native.Mathlib.Omega.{arith}
-use lib.ListN.{length, drop, replicate}
-use lib.Dec.{ltb, eqb}
+use lib.ListN.{length}
 use borrow.Author.Tests.{lt-ltb, le-ltb, eq-eqb, ne-eqb}
 use Rattle.number.specs.declared.refusal.Refusal.{Refusal}
 use Rattle.number.specs.declared.refusal.Refusal.the-variants as refusal
 use Rattle.table.specs.Sizes.{tableNumbers}
-use Rattle.table.specs.Rows.{Row, withRows, cleared}
-use Rattle.table.proofs.laws.Rows.{length-cleared}
+use Rattle.table.specs.Rows.{Row, cleared}
 use Rattle.der.specs.Parts.{Contents, is, isnt}
 use Rattle.values.specs.Limits.{ipExtension, asExtension, maxOctets}
 use Rattle.values.specs.Faults.{Fault, at}
@@ -27,6 +25,7 @@ use Rattle.values.specs.declared.elements.Counted.the-variants as counte
 use Rattle.values.specs.declared.readings.Refused as refused
 use Rattle.values.specs.declared.readings.Reading.{Reading}
 use Rattle.values.specs.declared.readings.Reading.the-variants as reading
+use Rattle.values.proofs.Answers.{counted-bad}
 
 -- what `answer` finds
 module _ (extension : ℕ) (c : Counted) (t : List ℕ) where
@@ -42,6 +41,7 @@ cleared-stands : (t t′ : List ℕ) → Stands t t′ → cleared tableNumbers 
 unfolding cleared
 cleared-stands t t′ h = rw (h .long, h .later)
 
+-- the rows that were counted, or a refusal and zeros, are what the definition says
 settle : {X : Type 0} (rows : X → List Row) (extension m n : ℕ) (t : List ℕ) (o : Contents X Fault) (c : Counted) (t′ : List ℕ)
     → CountedInto rows m n t o c t′ → answered extension c t′ ≡ settled extension n (tabled rows o) t
 settle rows extension m n t (is x) c t′ h = rw (h .0, h .1)
@@ -158,7 +158,7 @@ module _ (ip ids t : List ℕ) where
 pub ip-in-zero : (r : Refusal) (extension m : ℕ) (x : Reading) → x ≡ refusedAt r extension 0 → IpIn m x
 ip-in-zero r extension m x e = rw e (λ q. omega arith, λ q. refl)
 
-pub as-in-zero : (r : Refusal) (extension m : ℕ) (x : Reading) → (extension ≡ ipExtension → ⊥) → x ≡ refusedAt r extension 0 → AsIn m x
+as-in-zero : (r : Refusal) (extension m : ℕ) (x : Reading) → (extension ≡ ipExtension → ⊥) → x ≡ refusedAt r extension 0 → AsIn m x
 as-in-zero r extension m x h e = rw e (h, omega arith)
 
 pub as-in-short : (m : ℕ) (x : Reading) → x ≡ refusedAt refusal.TableShort 0 0 → AsIn m x
@@ -176,10 +176,6 @@ as-answered : (m : ℕ) (c : Counted) (u : List ℕ) → ((r : Refusal) (p : ℕ
 as-answered m (counted.Rows n) u h = tt
 as-answered m (counted.Bad r p) u h = ((λ q. omega arith), h r p refl)
 
-counted-in : {X : Type 0} (rows : X → List Row) (m n : ℕ) (t : List ℕ) (o : Contents X Fault) (c : Counted) (t′ : List ℕ) → CountedInto rows m n t o c t′ → (r : Refusal) (p : ℕ) → c ≡ counted.Bad r p → p ≤ m
-counted-in rows m n t (is x) c t′ h r p e = let z : _≡_ {A = ℕ} 0 1 = cc (h .0) in absurd (omega arith)
-counted-in rows m n t (isnt f) c t′ h r p e = let q : f .1 ≡ p = cc (h .0) in omega (arith, h .1)
-
 pub ip-in-large : (m : ℕ) (x : Reading) (t′ u : List ℕ) → _≡_ {A = Left} (x, t′) (answered ipExtension (counted.Bad refusal.ValueSize 0) u) → IpIn m x
 ip-in-large m x t′ u e = ip-in-zero refusal.ValueSize ipExtension m x (ap (λ (l : Left). l .0) e)
 
@@ -187,10 +183,10 @@ pub as-in-large : (m : ℕ) (x : Reading) (t′ u : List ℕ) → _≡_ {A = Lef
 as-in-large m x t′ u e = as-in-zero refusal.ValueSize asExtension m x (λ q. omega arith) (ap (λ (l : Left). l .0) e)
 
 pub ip-in-read : (v t t′ u : List ℕ) (x : Reading) (c : Counted) → CountedInto blocksRows (length v) 0 t (readBlocks v) c u → _≡_ {A = Left} (x, t′) (answered ipExtension c u) → IpIn (length v) x
-ip-in-read v t t′ u x c i e = let q : answered ipExtension c u .0 ≡ x = sym (ap (λ (l : Left). l .0) e) in rw q at (ip-answered (length v) c u (counted-in blocksRows (length v) 0 t (readBlocks v) c u i))
+ip-in-read v t t′ u x c i e = let q : answered ipExtension c u .0 ≡ x = sym (ap (λ (l : Left). l .0) e) in rw q at (ip-answered (length v) c u (λ r p h. counted-bad blocksRows (length v) 0 t u c (readBlocks v) i r p h .inside))
 
 pub as-in-read : (v t t′ u : List ℕ) (n : ℕ) (x : Reading) (c : Counted) → CountedInto identifiersRows (length v) n t (readIdentifiers n v) c u → _≡_ {A = Left} (x, t′) (answered asExtension c u) → AsIn (length v) x
-as-in-read v t t′ u n x c i e = let q : answered asExtension c u .0 ≡ x = sym (ap (λ (l : Left). l .0) e) in rw q at (as-answered (length v) c u (counted-in identifiersRows (length v) n t (readIdentifiers n v) c u i))
+as-in-read v t t′ u n x c i e = let q : answered asExtension c u .0 ≡ x = sym (ap (λ (l : Left). l .0) e) in rw q at (as-answered (length v) c u (λ r p h. counted-bad identifiersRows (length v) n t u c (readIdentifiers n v) i r p h .inside))
 
 -- of both
 pub both-in-ip : (m k : ℕ) (x : Reading) (f : refused.Refused) → IpIn m x → x ≡ reading.Refused f → BothIn m k x

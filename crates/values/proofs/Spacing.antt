@@ -1,12 +1,12 @@
 -- What the code of `space_of` and of `space_at` finds, in the terms of the definitions. Theorems. Assumes nothing.
 --     space-size, space-low, space-high, space-plain, space-safi      the exits of `space_of`.      sized-least      its octets are there
 --     opening-refused, contents-refused, order-refused, space-found     the exits of `space_at`, each with the bounds of what it says
-use mathlib.Core.Path.{_≡_, sym, _∙_}
+use mathlib.Core.Path.{_≡_, sym, ap, _∙_}
 use mathlib.Core.List.{List}
 use mathlib.Core.Bool.{Bool, true, false, not, false≢true}
 use Prim.Native.Nat.{ℕ, _+_, _-_, _*_, _≤_, _<_}
 use native.Mathlib.Omega.{arith}
-use lib.ListN.{length, getD, take, drop, take-append-drop}
+use lib.ListN.{length, getD, take, drop}
 use lib.Dec.{ltb, leb}
 use borrow.Author.Tests.{lt-ltb, le-ltb, ltb-false, not-true, not-false}
 use Rattle.number.specs.Tests.{pick}
@@ -14,13 +14,13 @@ use Rattle.number.specs.Octets.{Octets}
 use Rattle.number.specs.declared.refusal.Refusal.{Refusal}
 use Rattle.number.specs.declared.refusal.Refusal.the-variants as refusal
 use Rattle.number.proofs.Picks.{flag, pick-not, pick-is}
+use Rattle.number.proofs.laws.Octets.{octets-part}
 use Rattle.der.specs.Tags.{OCTET-STRING}
 use Rattle.der.specs.Strings.{isSized}
 use Rattle.der.specs.Opening.{openingOf}
 use Rattle.der.specs.Parts.{is, isnt, part}
 use Rattle.der.specs.declared.heads.Opening.{Opening}
 use Rattle.der.specs.declared.heads.Opening.the-variants as opening
-use Rattle.der.proofs.Tails.{octets-drop, octets-left}
 use Rattle.der.proofs.laws.Parts.{no-is}
 use Rattle.values.specs.Faults.{at}
 use Rattle.values.specs.Blocks.{afi, spaceOf, notBelow, spaceAt}
@@ -53,9 +53,9 @@ module _ (c : List ℕ) {f : Bool} (e : f ≡ isSized c 2 3) where
     space-high h = rw (flag e (not-false f g), le-ltb (afi c) 1 (omega arith), lt-ltb 2 (afi c) (omega arith))
 
     -- it is 1 or 2, with no SAFI and with one
-    pub space-plain : 1 ≤ x * 256 + y → x * 256 + y ≤ 2 → length c < 3 → is ((x * 256 + y) * 1024 + 0) ≡ spaceOf c
+    pub space-plain : 1 ≤ x * 256 + y → x * 256 + y ≤ 2 → length c < 3 → is ((x * 256 + y) * 1024) ≡ spaceOf c
     unfolding spaceOf
-    space-plain l h n = rw (flag e (not-false f g), le-ltb (afi c) 1 (omega arith), le-ltb 2 (afi c) (omega arith), lt-ltb (length c) 3 n) (rw (p, q))
+    space-plain l h n = rw (flag e (not-false f g), le-ltb (afi c) 1 (omega arith), le-ltb 2 (afi c) (omega arith), lt-ltb (length c) 3 n) (let z : (x * 256 + y) * 1024 ≡ afi c * 1024 + 0 = omega arith in ap is z)
 
     pub space-safi : {z : ℕ} → z ≡ getD c 2 0 → 1 ≤ x * 256 + y → x * 256 + y ≤ 2 → 3 ≤ length c → is ((x * 256 + y) * 1024 + (1 + z)) ≡ spaceOf c
     unfolding spaceOf
@@ -100,6 +100,6 @@ module _ (least : ℕ) (s : List ℕ) (o : Opening) (p : o ≡ openingOf OCTET-S
       unfolding spaceAt Octets
       space-found l b =
           let w : spaceOf (take (e - k) (drop k s)) ≡ is x = sym h ∙ rw u in
-          let g : Octets (take (e - k) (drop k s)) = octets-left (take (e - k) (drop k s)) (drop (e - k) (drop k s)) (rw take-append-drop (octets-drop k s b)) in
+          let g : Octets (take (e - k) (drop k s)) = octets-part k (e - k) s b in
           let i = sift-took (notBelow least) _ s x e (tag-took OCTET-STRING s p k e q (λ k. spaceOf) x w) x (rw (le-ltb x least l)) in
           (i .told, (space-bound (take (e - k) (drop k s)) x (g 2) w, (i .some, i .inside)))

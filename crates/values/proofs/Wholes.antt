@@ -1,5 +1,5 @@
 -- A part, then another, and then nothing: `two` and `only`, by what each part was. Theorems. Assumes nothing.
---     only-bad, only-over, only-all       nothing after it
+--     before       how many octets a part has, by the rest.       only-bad, only-over, only-all       nothing after it
 --     two-first, two-second, two-both     one, then another
 use mathlib.Core.Path.{_≡_, refl}
 use mathlib.Core.List.{List, [], _∷_}
@@ -21,6 +21,10 @@ module _ {X E : Type 0} (over : ℕ → E) (n : ℕ) (x : X) where
   ended-is [] h = refl
   ended-is (b ∷ l) h = absurd (omega arith)
 
+-- how many octets come before the rest
+pub before : (k : ℕ) (s : List ℕ) → k ≤ length s → length s - length (drop k s) ≡ k
+before k s l = rw length-drop (omega arith)
+
 -- octets after what may stand alone
 abbrev pub over : ℕ → Fault
 over j = at j refusal.OctetsLeft
@@ -35,9 +39,7 @@ module _ {X : Type 0} (dec : List ℕ → Part X Fault) (s : List ℕ) where
     -- a part, and octets after it
     pub only-over : k < length s → isnt (over k) ≡ only over dec s
     unfolding only
-    only-over h =
-        let e : length s - length (drop k s) ≡ k = rw length-drop (omega arith) in
-        rw (← p) (rw e at (ended-over over (length s) x (drop k s) (rw length-drop (omega arith))))
+    only-over h = rw (← p) (rw (before k s (omega arith)) at (ended-over over (length s) x (drop k s) (rw length-drop (omega arith))))
 
     -- a part alone
     pub only-all : length s ≤ k → is x ≡ only over dec s
@@ -55,16 +57,12 @@ module _ {X Y : Type 0} (dec : List ℕ → Part X Fault) (next : X → List ℕ
   two-first f p = rw (← p) refl
 
   module _ (x : X) (k : ℕ) (p : part x (drop k s) ≡ dec s) (l : k ≤ length s) where
-    -- the octets of the first part
-    before : length s - length (drop k s) ≡ k
-    before = rw length-drop (omega arith)
-
     -- the second is refused
     pub two-second : (f : Fault) → nopart f ≡ next x (drop k s) → nopart (at (k + f .1) (f .0)) ≡ paired dec next s
     unfolding two
-    two-second f q = rw (← p, before, ← q) refl
+    two-second f q = rw (← p, before k s l, ← q) refl
 
     -- both are read
     pub two-both : (y : Y) (j : ℕ) → part y (drop j (drop k s)) ≡ next x (drop k s) → part (x, y) (drop (k + j) s) ≡ paired dec next s
     unfolding two
-    two-both y j q = rw (← p, before, ← q, drop-drop) refl
+    two-both y j q = rw (← p, before k s l, ← q, drop-drop) refl

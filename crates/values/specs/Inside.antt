@@ -5,7 +5,7 @@ use Rattle.values.specs.Limits.{ipExtension}
 use Rattle.values.specs.declared.readings.Reading.{Reading}
 use Rattle.values.specs.declared.readings.Reading.the-variants as reading
 
--- an IP value of m octets, and the AS value's refusals after it
+-- an IP value of m octets; a refusal that does not name it (16) has the place 0
 abbrev pub IpIn : ℕ → Reading → Type 0
 IpIn m (reading.Rows n) = Unit {0}
 IpIn m (reading.Refused f) = (f .extension ≡ ipExtension → f .place ≤ m) × ((f .extension ≡ ipExtension → ⊥) → f .place ≡ 0)

@@ -15,6 +15,7 @@ use Rattle.values.specs.declared.blocks.Family.{Family}
 use Rattle.values.specs.declared.blocks.Family.the-variants as family
 use Rattle.values.specs.Choices.{Choice, choiceRows}
 
+-- the table is as long as it was, and its numbers after the first 3,072 are the same
 pub record Stands (t t′ : List ℕ) : Type 0 where
   pub long : length t′ ≡ length t
   pub later : drop tableNumbers t′ ≡ drop tableNumbers t

@@ -11,8 +11,10 @@ pub mod Identifiers
 pub mod Tables
 pub mod Starred
 pub mod Seen
+pub mod Briefs
 pub mod Into
 pub mod Encode
+pub mod Papers
 pub mod Readings
 pub mod Inside
 pub mod Parted

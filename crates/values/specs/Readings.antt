@@ -1,11 +1,10 @@
 -- The readers: reply and table. "On 16 both tables are unchanged. Otherwise .. the first's hold the rows and then zeros (all zeros on refusal); later numbers are unchanged. The reader alone has one table, under the same rule; it tests 16 before 1."
 use Prim.Native.Nat.{ℕ, _+_}
-use mathlib.Core.List.{List, [], _∷_}
+use mathlib.Core.List.{List}
 use lib.ListN.{length}
 use lib.Dec.{ltb, eqb}
 use Rattle.number.specs.Tests.{pick}
 use Rattle.number.specs.Halves.{halves}
-use Rattle.number.specs.Refusal.{numberOf}
 use Rattle.number.specs.declared.refusal.Refusal.{Refusal}
 use Rattle.number.specs.declared.refusal.Refusal.the-variants as refusal
 use Rattle.table.specs.Sizes.{tableNumbers}
@@ -16,6 +15,7 @@ use Rattle.values.specs.Faults.{Fault, at}
 use Rattle.values.specs.Tables.{ipRows, asRows}
 use Rattle.values.specs.declared.elements.Counted.{Counted}
 use Rattle.values.specs.declared.elements.Counted.the-variants as counted
+use Rattle.values.specs.declared.readings.Refused.{Refused}
 use Rattle.values.specs.declared.readings.Reading.{Reading}
 use Rattle.values.specs.declared.readings.Reading.the-variants as reading
 
@@ -23,9 +23,13 @@ use Rattle.values.specs.declared.readings.Reading.the-variants as readin
 abbrev pub Left : Type 0
 Left = Reading × List ℕ
 
--- "the reader and the writer alone name certificate 0"; "Space is set for 14 and 15, value for 15, else 0"
+-- what a refusal names: "Space is set for 14 and 15, value for 15, else 0"
+abbrev pub naming : Refusal → ℕ → ℕ → ℕ → Refused
+naming r certificate extension place = record { refusal = r; certificate = certificate; extension = extension; place = place; space = 0; value = halves 0 }
+
+-- "the reader and the writer alone name certificate 0"
 abbrev pub refusedAt : Refusal → ℕ → ℕ → Reading
-refusedAt r extension place = reading.Refused (record { refusal = r; certificate = 0; extension = extension; place = place; space = 0; value = halves 0 })
+refusedAt r extension place = reading.Refused (naming r 0 extension place)
 
 -- "a lent table too short": "Numbers 12 and 16 to 20 name certificate 0 and extension 0"
 abbrev pub short : List ℕ → Left
@@ -85,8 +89,3 @@ stepBoth ip ids t = thenAs ids (pick (eqb (length ip) 0) (reading.Rows 0, t) (st
 
 unfoldable pub readBoth : List ℕ → List ℕ → List ℕ → Left
 readBoth ip ids t = pick (ltb (length t) tableNumbers) (short t) (stepBoth ip ids (cleared tableNumbers t))
-
--- a reply in this paper's numbers: number (0 if accepted), certificate, extension, place, space, value in halves, rows, pairs
-abbrev pub paper : Reading → List ℕ
-paper (reading.Rows n) = 0 ∷ 0 ∷ 0 ∷ 0 ∷ 0 ∷ 0 ∷ 0 ∷ n ∷ 0 ∷ []
-paper (reading.Refused f) = numberOf (f .refusal) ∷ f .certificate ∷ f .extension ∷ f .place ∷ f .space ∷ f .value .upper ∷ f .value .lower ∷ 0 ∷ 0 ∷ []

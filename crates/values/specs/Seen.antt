@@ -1,4 +1,4 @@
--- The answers of the code, in the words of the definitions. A part's rest is what follows the octets that it took.
+-- The answers of the code, in the words of the definitions (`..Seen`): a part's rest is what follows the octets that it took. Its end, or the place of its refusal, is within the octets given (`..In`).
 use Prim.Native.Nat.{ℕ, _^_, _≤_, _<_}
 use mathlib.Core.Path.{_≡_}
 use mathlib.Core.List.{List}
@@ -17,6 +17,8 @@ use Rattle.values.specs.declared.addresses.BitsAt as b
 use Rattle.values.specs.declared.addresses.BitsAt.the-variants as bitsAt
 use Rattle.values.specs.declared.addresses.Bounds as d
 use Rattle.values.specs.declared.addresses.Bounds.the-variants as bounds
+use Rattle.values.specs.declared.addresses.BoundsAt as c
+use Rattle.values.specs.declared.addresses.BoundsAt.the-variants as boundsAt
 use Rattle.values.specs.declared.addresses.Ranged as g
 use Rattle.values.specs.declared.addresses.Ranged.the-variants as ranged
 use Rattle.values.specs.declared.ids.Listed as l
@@ -32,7 +34,7 @@ use Rattle.values.specs.declared.blocks.SpaceOf.the-variants as spaceOf
 use Rattle.values.specs.declared.blocks.SpaceAt as a
 use Rattle.values.specs.declared.blocks.SpaceAt.the-variants as spaceAt
 
--- an element was read to an end within the n octets given, or refused at a place there
+-- the end of an element, within n octets
 abbrev pub Reached : ℕ → ℕ → Type 0
 Reached n end = (0 < end) × (end ≤ n)
 
@@ -52,6 +54,14 @@ boundsSeen (bounds.Bad r q) = isnt (at q r)
 abbrev pub BoundsIn : ℕ → ℕ → d.Bounds → Type 0
 BoundsIn w k (bounds.Is n x m y) = (whole x < 2 ^ w) × (whole y < 2 ^ w)
 BoundsIn w k (bounds.Bad r q) = q ≤ k
+
+abbrev pub boundsAtSeen : List ℕ → c.BoundsAt → Part ((ℕ × ℕ) × (ℕ × ℕ)) Fault
+boundsAtSeen s (boundsAt.Is n x m y end) = part ((n, whole x), (m, whole y)) (drop end s)
+boundsAtSeen s (boundsAt.Bad r q) = nopart (at q r)
+
+abbrev pub BoundsAtIn : ℕ → ℕ → c.BoundsAt → Type 0
+BoundsAtIn w k (boundsAt.Is n x m y end) = (whole x < 2 ^ w) × (whole y < 2 ^ w) × Reached k end
+BoundsAtIn w k (boundsAt.Bad r q) = q ≤ k
 
 -- the row of a range in the space a
 abbrev pub rangedSeen : ℕ → Span → g.Ranged

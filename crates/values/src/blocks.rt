@@ -17,6 +17,7 @@ use der::strings;
 use der::tags;
 use number::refusal::Refusal;
 
+// An octet's number, in the type that a space has.
 fn wide(x: u8) -> u64
     ensures { λ r. ⌜ (r ≡ x) × (r < 256) ⌝ }
 {
@@ -50,7 +51,7 @@ fn space_of(contents: &[u8]) -> SpaceOf
         return SpaceOf::Bad(Refusal::Afi);
     }
     if contents.len() < 3 {
-        return SpaceOf::Is(afi * 1024 + 0);
+        return SpaceOf::Is(afi * 1024);
     }
     SpaceOf::Is(afi * 1024 + (1 + wide(contents[2])))
 }
@@ -101,7 +102,7 @@ fn family_of(s: &[u8], least: u64, count: usize, table: &mut [u64]) -> Family
     }
 }
 
-// The families of s, into the table from row 0 on.
+// The families of s, into the table from row 0 on: "Rows ascend by space", so the next space is at least one more.
 fn families(s: &[u8], table: &mut [u64]) -> Counted
     ensures { λ r. ⌜ CountedInto blocksRows (length (now (s .entry))) 0 (now (table .entry)) (spec.familiesOf (now (s .entry))) r (now (table .exit)) ⌝ }
 {

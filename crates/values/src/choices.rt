@@ -11,7 +11,7 @@ use der::heads;
 use der::heads::Opening;
 use der::strings;
 use der::tags;
-use number::halves::Halves;
+use number::halves;
 use number::refusal::Refusal;
 use table::rows;
 use table::rows::Row;
@@ -23,6 +23,7 @@ pub enum Chosen {
     Bad(Refusal, usize),
 }
 
+// The number that a list's rows have for their space.
 fn space_number(space: Space) -> u64
     ensures { λ r. ⌜ r ≡ spaceNumber space ⌝ }
 {
@@ -37,16 +38,15 @@ fn space_number(space: Space) -> u64
 fn inherit_row(space: u64) -> Row
     ensures { λ r. ⌜ r ≡ inHalves (spec.inheritRow space) ⌝ }
 {
-    let low = Halves { upper: 0, lower: 0 };
-    let high = Halves { upper: 0, lower: 0 };
     Row {
         space: space,
         inherit: 1,
-        low: low,
-        high: high,
+        low: halves::ZERO,
+        high: halves::ZERO,
     }
 }
 
+// The NULL that s begins with: its row says that the space is inherited.
 fn inherit_at(space: u64, s: &[u8], count: usize, table: &mut [u64]) -> Chosen
     ensures { λ r. ⌜ ChosenInto space (now (s .entry)) count (now (table .entry)) (spec.inheritAt count (now (s .entry))) r (now (table .exit)) ⌝ }
 {
@@ -65,6 +65,7 @@ fn inherit_at(space: u64, s: &[u8], count: usize, table: &mut [u64]) -> Chosen
     }
 }
 
+// The list that s begins with: "at least one element".
 fn list_at(space: Space, s: &[u8], count: usize, table: &mut [u64]) -> Chosen
     ensures { λ r. ⌜ ChosenInto (spaceNumber space) (now (s .entry)) count (now (table .entry)) (spec.listedAt space count (now (s .entry))) r (now (table .exit)) ⌝ }
 {

@@ -8,19 +8,24 @@ ghost use Rattle.values.specs.Limits.{asNumbers, routingDomains};
 ghost use Rattle.values.specs.Choices.{listedRow};
 ghost use Rattle.values.specs.Ids as spec;
 ghost use Rattle.values.specs.Seen.{integerSeen, IntegerIn, pairSeen, PairIn, pairAtSeen, PairAtIn, rangeSeen, foundSeen, FoundIn};
+ghost use Rattle.values.specs.Briefs.{BriefNumber};
 use crate::addresses::Found;
+use crate::briefs;
 use der::heads;
 use der::heads::Opening;
 use der::integers;
 use der::integers::Integer;
 use der::tags;
+use number::address;
 use number::halves::Halves;
 use number::refusal::Refusal;
 use table::rows::Row;
 use table::spaces;
 
+// An AS number.
 pub struct AsNumber(pub u32);
 
+// A routing domain identifier.
 pub struct RdiNumber(pub u32);
 
 // A row, or none where min is not below max.
@@ -29,6 +34,7 @@ pub enum Listed {
     No,
 }
 
+// An identifier in halves: it has 32 bits.
 fn id_halves(n: u32) -> Halves
     ensures { λ r. ⌜ r ≡ halves n ⌝ }
 {
@@ -92,8 +98,8 @@ pub enum IntegerAt {
     Bad(Refusal, usize),
 }
 
-// The INTEGER that s begins with: whatever the cause, one that is none is refusal 4.
-fn integer_at(s: &[u8]) -> IntegerAt
+// The INTEGER that s begins with, by its head and its contents: whatever the cause, one that is none is refusal 4.
+fn any_integer_at(s: &[u8]) -> IntegerAt
     ensures { λ r. ⌜ integerSeen (now (s .entry)) r ≡ spec.integerAt (now (s .entry)) ⌝ }
     ensures { λ r. ⌜ IntegerIn (length (now (s .entry))) r ⌝ }
 {
@@ -109,22 +115,73 @@ fn integer_at(s: &[u8]) -> IntegerAt
     }
 }
 
+// An INTEGER of one to five octets, brief: how many octets it took, and the number. 0 octets where it is not brief, or is to be refused.
+pub struct Brief {
+    pub taken: usize,
+    pub number: u32,
+}
+
+// Nothing was taken.
+fn not_brief() -> Brief
+    ensures { λ r. ⌜ r .taken ≡ 0 ⌝ }
+{
+    Brief {
+        taken: 0,
+        number: 0,
+    }
+}
+
+// The brief INTEGER that s begins with: its octets are the first of a word.
+fn brief_number(s: &[u8]) -> Brief
+    ensures { λ r. ⌜ BriefNumber (now (s .entry)) r ⌝ }
+{
+    if !briefs::is_brief(tags::INTEGER, 1, 5, s) {
+        return not_brief();
+    }
+    let octets = briefs::wide(s[1]);
+    let x = address::spelled(&s[2..10]) >> (64 - 8 * octets);
+    if 4294967295 < x {
+        return not_brief();
+    }
+    let number = x as u32;
+    // So many octets are the number's own: they are minimal, and not negative.
+    if integers::octets(number) != octets as usize {
+        return not_brief();
+    }
+    Brief {
+        taken: 2 + octets as usize,
+        number: number,
+    }
+}
+
+// The INTEGER that s begins with.
+fn integer_at(s: &[u8]) -> IntegerAt
+    ensures { λ r. ⌜ integerSeen (now (s .entry)) r ≡ spec.integerAt (now (s .entry)) ⌝ }
+    ensures { λ r. ⌜ IntegerIn (length (now (s .entry))) r ⌝ }
+{
+    let short = brief_number(s);
+    if 0 < short.taken {
+        return IntegerAt::Is(short.number, short.taken);
+    }
+    any_integer_at(s)
+}
+
 // Min and max of a range; or a refusal and its place.
 pub enum Pair {
     Is(u32, u32),
     Bad(Refusal, usize),
 }
 
-// The contents of a range: min, then max, then nothing.
+// The contents of a range: min, then max, then nothing. Not by `integer_at`: where both are brief, `pair_at` has taken them.
 fn pair_of(s: &[u8]) -> Pair
     ensures { λ r. ⌜ pairSeen r ≡ spec.pairOf (now (s .entry)) ⌝ }
     ensures { λ r. ⌜ PairIn (length (now (s .entry))) r ⌝ }
 {
-    match integer_at(s) {
+    match any_integer_at(s) {
         IntegerAt::Bad(refusal, at) => Pair::Bad(refusal, at),
         IntegerAt::Is(min, k) => {
             let rest = &s[k..];
-            match integer_at(rest) {
+            match any_integer_at(rest) {
                 IntegerAt::Bad(refusal, at) => Pair::Bad(refusal, k + at),
                 IntegerAt::Is(max, j) => {
                     if j < rest.len() {
@@ -143,8 +200,8 @@ pub enum PairAt {
     Bad(Refusal, usize),
 }
 
-// The range that s begins with.
-fn pair_at(s: &[u8]) -> PairAt
+// The range that s begins with, by its head and its contents.
+fn any_pair_at(s: &[u8]) -> PairAt
     ensures { λ r. ⌜ pairAtSeen (now (s .entry)) r ≡ spec.pairAt (now (s .entry)) ⌝ }
     ensures { λ r. ⌜ PairAtIn (length (now (s .entry))) r ⌝ }
 {
@@ -155,6 +212,30 @@ fn pair_at(s: &[u8]) -> PairAt
             Pair::Is(min, max) => PairAt::Is(min, max, end),
         },
     }
+}
+
+// The range that s begins with. Two brief INTEGERs have fewer than 128 octets: if they are the contents, the length is one octet, and the head need not be read.
+fn pair_at(s: &[u8]) -> PairAt
+    ensures { λ r. ⌜ pairAtSeen (now (s .entry)) r ≡ spec.pairAt (now (s .entry)) ⌝ }
+    ensures { λ r. ⌜ PairAtIn (length (now (s .entry))) r ⌝ }
+{
+    if 2 <= s.len() {
+        if s[0] == tags::SEQUENCE {
+            let rest = &s[2..];
+            let min = brief_number(rest);
+            let k = min.taken;
+            if 0 < k {
+                let max = brief_number(&rest[k..]);
+                let j = max.taken;
+                if 0 < j {
+                    if k + j == briefs::wide(s[1]) as usize {
+                        return PairAt::Is(min.number, max.number, 2 + k + j);
+                    }
+                }
+            }
+        }
+    }
+    any_pair_at(s)
 }
 
 // The AS number that s begins with.

@@ -1,4 +1,4 @@
-// Tags, spaces and sizes of RFC 3779 and document 01 by name.
+// Tags, extensions and sizes of RFC 3779 and document 01 by name.
 
 // asnum and rdi of ASIdentifiers: [0] and [1], constructed (RFC 3779, section 3.2.3).
 pub const ASNUM: u8 = 0xa0;

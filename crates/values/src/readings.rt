@@ -3,6 +3,7 @@ use crate::blocks;
 use crate::elements::Counted;
 use crate::identifiers;
 use crate::limits;
+use number::halves;
 use number::halves::Halves;
 ghost use mathlib.Core.Path.{_≡_};
 ghost use lib.ListN.{length};
@@ -27,20 +28,25 @@ pub enum Reading {
     Refused(Refused),
 }
 
+// Returns the refusal with what it names: "Space is set for 14 and 15, value for 15, else 0".
+pub fn naming(refusal: Refusal, certificate: u64, extension: u64, place: usize) -> Refused
+    ensures { λ r. ⌜ r ≡ spec.naming refusal certificate extension place ⌝ }
+{
+    Refused {
+        refusal: refusal,
+        certificate: certificate,
+        extension: extension,
+        place: place,
+        space: 0,
+        value: halves::ZERO,
+    }
+}
+
 // A refusal of a reader: "the reader and the writer alone name certificate 0".
 fn refuse(refusal: Refusal, extension: u64, place: usize) -> Reading
     ensures { λ r. ⌜ r ≡ spec.refusedAt refusal extension place ⌝ }
 {
-    let zero = Halves { upper: 0, lower: 0 };
-    let fault = Refused {
-        refusal: refusal,
-        certificate: 0,
-        extension: extension,
-        place: place,
-        space: 0,
-        value: zero,
-    };
-    Reading::Refused(fault)
+    Reading::Refused(naming(refusal, 0, extension, place))
 }
 
 // The reader's answer to what was counted. A refusal leaves zeros in the table.

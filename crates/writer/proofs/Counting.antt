@@ -8,6 +8,7 @@ use Rattle.table.specs.Rows.{seen, inHalves, room, rowAt}
 use Rattle.table.specs.declared.rows.Row as code
 use Rattle.writer.specs.Families.{Table, none, openHeads, closing, own, onward, families}
 use Rattle.writer.specs.declared.families.Open.{Open}
+use Rattle.writer.specs.Writer.{familiesMost}
 use Rattle.writer.proofs.laws.Families.{tail}
 use Rattle.writer.proofs.Passing.{passed, all-few, Passed, pass-start, start-tail, pass-end, tail-is, tail-fits, pass-turn}
 
@@ -15,7 +16,7 @@ use Rattle.writer.proofs.Passing.{passed, all-few, Passed, pass-start, 
 pub record Counted (kind : ℕ) (t : List ℕ) (k : ℕ) (list : Open) (size : ℕ) : Type 0 where
   pub rows : Passed kind t k list
   pub counted : size ≡ length (tail kind (passed t k))
-  pub few : size ≤ 27136
+  pub few : size ≤ familiesMost
 
 -- before the loop
 pub count-start : (kind : ℕ) (t : List ℕ) → Counted kind t (room t) none 0
@@ -27,7 +28,7 @@ module _ {kind : ℕ} {t : List ℕ} (b : Table kind t) {k : ℕ} {list : Open} 
   count-end m h e =
       omega (arith, v .counted, ap length (pass-end b (v .rows) h), length-append (openHeads kind list) (tail kind (passed t k)))
 
-  pub count-few : (m : ℕ) → k ≤ 0 → m ≡ length (openHeads kind list) → size + m ≤ 27136
+  pub count-few : (m : ℕ) → k ≤ 0 → m ≡ length (openHeads kind list) → size + m ≤ familiesMost
   count-few m h e = omega (arith, count-end m h e, all-few b)
 
   -- after a row

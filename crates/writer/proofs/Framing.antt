@@ -13,20 +13,20 @@ use Rattle.table.specs.Rows.{Row}
 use Rattle.der.specs.Tags.{SEQUENCE, NULL}
 use Rattle.der.specs.Head.{headOctets, headSize}
 use Rattle.der.specs.Written.{written, headWritten}
-use Rattle.der.proofs.laws.Heads.{head-size}
+use Rattle.der.proofs.laws.Heads.{head-size, head-few}
 use Rattle.der.proofs.laws.Writing.{head-written}
 use Rattle.values.specs.Encode.{rowOctets, groupHeads}
-use Rattle.writer.specs.Writer.{elementSize, Lists}
+use Rattle.writer.specs.Writer.{listMost, choiceMost, headsMost, elementSize, Lists}
 use Rattle.writer.specs.Families.{Own, Opened, Upto, frame, openHeads, joins, closing, own}
 use Rattle.writer.specs.declared.families.Open.{Open}
-use Rattle.writer.proofs.laws.Groups.{head-few, heads-few}
+use Rattle.writer.proofs.laws.Groups.{heads-few}
 use Rattle.writer.proofs.laws.Families.{frame-size, inherit-is}
 use Rattle.writer.proofs.Placing.{upto-none, upto-length, upto-on}
 
 -- A FRAME
 
 -- an element's octets are few if its contents are
-pub size-few : (n : ℕ) {s : ℕ} → s ≡ elementSize n → n ≤ 50000 → s ≤ 60000
+pub size-few : (n : ℕ) {s : ℕ} → s ≡ elementSize n → n ≤ listMost → s ≤ choiceMost
 size-few n e h = omega (arith, head-few n)
 
 -- its heads, counted
@@ -34,7 +34,7 @@ module _ (kind a n : ℕ) {s m k : ℕ} (p : s ≡ elementSize n) (q : m ≡ len
   pub frame-sum : m + k ≡ length (frame kind a SEQUENCE n)
   frame-sum = let e : length (groupHeads kind a s) ≡ length (groupHeads kind a (elementSize n)) = rw p in omega (arith, frame-size kind a SEQUENCE n)
 
-  pub frame-sum-few : m + k ≤ 13
+  pub frame-sum-few : m + k ≤ headsMost
   frame-sum-few = omega (arith, heads-few kind a s, head-few n)
 
 -- its heads, written
@@ -51,7 +51,7 @@ module _ (kind a tag n : ℕ) {end k : ℕ} (h : length (frame kind a tag n) ≤
     pub frame-first : m ≤ end - k
     frame-first = omega (arith, same-heads, frame-size kind a tag n)
 
-    module _ (out : List ℕ) (z : end ≤ length out) (b : n ≤ 50000) {left : List ℕ} (w : left ≡ headWritten out (end - k) tag n) where
+    module _ (out : List ℕ) (z : end ≤ length out) (b : n ≤ listMost) {left : List ℕ} (w : left ≡ headWritten out (end - k) tag n) where
       last-done : Upto out end (headOctets tag n) (end - k) left
       last-done = record { place = omega (arith, head-size tag n, frame-last); done = w ∙ head-written out (end - k) tag n (omega arith) }
 

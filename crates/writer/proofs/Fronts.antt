@@ -17,12 +17,11 @@ use Rattle.table.proofs.laws.Spaces.{IpSpace, kind-ip}
 use Rattle.der.specs.Tags.{OCTET-STRING, SEQUENCE}
 use Rattle.der.specs.Head.{element, headOctets, headSize}
 use Rattle.der.specs.Written.{written, headWritten}
-use Rattle.der.proofs.laws.Heads.{head-size, element-size}
+use Rattle.der.proofs.laws.Heads.{head-size, head-two, head-few, element-size}
 use Rattle.der.proofs.laws.Writing.{written-on, head-written}
 use Rattle.values.specs.Limits.{ASNUM, RDI, asNumbers}
 use Rattle.values.specs.Encode.{spaceOctets, groupHeads}
-use Rattle.writer.specs.Writer.{elementSize}
-use Rattle.writer.proofs.Sizing.{head-two, head-most}
+use Rattle.writer.specs.Writer.{choiceMost, groupMost, elementSize}
 use Rattle.writer.proofs.Pieces.{element-put}
 
 -- an addressFamily
@@ -83,10 +82,10 @@ module _ {k s h : ℕ} (kind a n : ℕ) (e : kind ≡ ipKind) (f : k ≡ length 
   family-head = family-heads kind a n e ∙ rw family-first
 
   -- both
-  pub family-size : (h + s ≡ length (groupHeads kind a n)) × (h + s ≤ 9)
+  pub family-size : (h + s ≡ length (groupHeads kind a n)) × (h + s ≤ groupMost)
   family-size =
       let l = family-first in
-      let m = head-most (s + n) in
+      let m = head-few (s + n) in
       let o = head-two k (omega arith) in
       (rw (family-head, length-append, head-size, l) (omega arith), omega arith)
 
@@ -97,7 +96,7 @@ module _ {k s h : ℕ} (kind a n : ℕ) (e : kind ≡ ipKind) (f : k ≡ length 
     family-room = omega (arith, family-first, family-size .0)
 
     -- and they are written
-    pub family-put : {p r : List ℕ} → n ≤ 60000 → p ≡ headWritten out at SEQUENCE (s + n) → r ≡ written p (at + h) (element OCTET-STRING (spaceOctets a)) → r ≡ written out at (groupHeads kind a n)
+    pub family-put : {p r : List ℕ} → n ≤ choiceMost → p ≡ headWritten out at SEQUENCE (s + n) → r ≡ written p (at + h) (element OCTET-STRING (spaceOctets a)) → r ≡ written out at (groupHeads kind a n)
     family-put {p} {r} c q t =
         let o = head-two k (omega arith) in
         let l : length (headOctets SEQUENCE (s + n)) ≡ h = head-size SEQUENCE (s + n) ∙ sym j in
@@ -107,13 +106,13 @@ module _ {k s h : ℕ} (kind a n : ℕ) (e : kind ≡ ipKind) (f : k ≡ length 
 -- a member
 module _ (kind a n : ℕ) (e : kind ≡ ipKind → ⊥) where
   -- its head
-  pub member-size : {h : ℕ} → h ≡ headSize n → (h ≡ length (groupHeads kind a n)) × (h ≤ 9)
-  member-size {h} j = let m = head-most n in (rw (member-heads kind a n e, head-size) j, omega arith)
+  pub member-size : {h : ℕ} → h ≡ headSize n → (h ≡ length (groupHeads kind a n)) × (h ≤ groupMost)
+  member-size {h} j = let m = head-few n in (rw (member-heads kind a n e, head-size) j, omega arith)
 
   -- of asnum
-  pub asnum-put : {r : List ℕ} (out : List ℕ) (at : ℕ) → n ≤ 60000 → a ≡ asNumbers → r ≡ headWritten out at ASNUM n → r ≡ written out at (groupHeads kind a n)
+  pub asnum-put : {r : List ℕ} (out : List ℕ) (at : ℕ) → n ≤ choiceMost → a ≡ asNumbers → r ≡ headWritten out at ASNUM n → r ≡ written out at (groupHeads kind a n)
   asnum-put {r} out at b f i = i ∙ head-written out at ASNUM n (omega arith) ∙ rw (member-heads kind a n e, eq-eqb a asNumbers f)
 
   -- of rdi
-  pub rdi-put : {r : List ℕ} (out : List ℕ) (at : ℕ) → n ≤ 60000 → (a ≡ asNumbers → ⊥) → r ≡ headWritten out at RDI n → r ≡ written out at (groupHeads kind a n)
+  pub rdi-put : {r : List ℕ} (out : List ℕ) (at : ℕ) → n ≤ choiceMost → (a ≡ asNumbers → ⊥) → r ≡ headWritten out at RDI n → r ≡ written out at (groupHeads kind a n)
   rdi-put {r} out at b f i = i ∙ head-written out at RDI n (omega arith) ∙ rw (member-heads kind a n e, ne-eqb a asNumbers f)

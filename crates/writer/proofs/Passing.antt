@@ -30,6 +30,7 @@ use Rattle.table.proofs.laws.Tables.{table-true, first-sound, without}
 use Rattle.values.specs.Encode.{grouped}
 use Rattle.writer.specs.Families.{Table, Own, Opened, none, openHeads, closing, own, onward, families}
 use Rattle.writer.specs.declared.families.Open.{Open}
+use Rattle.writer.specs.Writer.{familiesMost, rowMost}
 use Rattle.writer.proofs.laws.Families.{Families, groups, openOf, tail, onto, Owned, no-first, size-tail, open-own, split, owned-turn, tail-turn, open-turn, own-few, groups-more, groups-few}
 
 -- the rows from row k on
@@ -148,11 +149,11 @@ module _ {kind : ℕ} {t : List ℕ} (b : Table kind t) where
       rw (passed-turn t k l) (omega (arith, row-few m (k + 1) (omega arith), groups-few kind (b .one) (rowAt t k) (row-at k l) (passed t (k + 1)) (owned (k + 1))))
 
   -- HOW MANY OCTETS ALL FAMILIES HAVE
-  pub all-few : length (families kind t) ≤ 27136
+  pub all-few : length (families kind t) ≤ familiesMost
   all-few = rw (passed-all kind t) (omega (arith, row-few (room t) 0 (omega arith), table-true kind t (b .table) .few))
 
   -- and what is behind the heads of the open list
-  pub tail-few : (k : ℕ) → k ≤ room t → (length (openHeads kind (openOf kind (passed t k))) + length (tail kind (passed t k)) ≤ length (families kind t)) × (length (tail kind (passed t k)) ≤ 27136)
+  pub tail-few : (k : ℕ) → k ≤ room t → (length (openHeads kind (openOf kind (passed t k))) + length (tail kind (passed t k)) ≤ length (families kind t)) × (length (tail kind (passed t k)) ≤ familiesMost)
   tail-few k h =
       let fs = passed t k in
       omega (arith, rw (split kind (b .one) fs (owned k), length-append (openHeads kind (openOf kind fs)) (tail kind fs)) at (part-of k h), all-few)
@@ -161,7 +162,7 @@ module _ {kind : ℕ} {t : List ℕ} (b : Table kind t) where
 pub record Passed (kind : ℕ) (t : List ℕ) (k : ℕ) (list : Open) : Type 0 where
   pub upto : k ≤ room t
   pub same : list ≡ openOf kind (passed t k)
-  pub small : list .size ≤ 27136
+  pub small : list .size ≤ familiesMost
 
 -- no row was passed
 pub pass-start : (kind : ℕ) (t : List ℕ) → Passed kind t (room t) none
@@ -199,7 +200,7 @@ module _ {kind : ℕ} {t : List ℕ} (b : Table kind t) {k : ℕ} {list : Open} 
     pub pass-own : Own kind (seen row)
     pass-own = rw row-seen at row-own
 
-    pub pass-own-few : length (own kind (seen row)) ≤ 40
+    pub pass-own-few : length (own kind (seen row)) ≤ rowMost
     pass-own-few = own-few kind (seen row) pass-own
 
     -- it comes with its own octets, and the heads behind it

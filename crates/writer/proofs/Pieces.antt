@@ -18,9 +18,9 @@ use Rattle.der.specs.Integer.{integerSize, integerOctets}
 use Rattle.der.specs.Written.{written, headWritten, bitsWritten}
 use Rattle.der.proofs.laws.Heads.{head-size, element-size}
 use Rattle.der.proofs.laws.Bits.{bits-size}
-use Rattle.der.proofs.laws.Integers.{integer-size}
+use Rattle.der.proofs.laws.Integers.{integer-size, integer-most}
 use Rattle.der.proofs.laws.Writing.{length-written, written-on, head-written, element-is, address-bits, bits-written}
-use Rattle.writer.proofs.Sizing.{Two, bits-most, integer-most}
+use Rattle.writer.proofs.Sizing.{Two, bits-most}
 
 -- contents c of k octets, after a head of h
 module _ {k h : ℕ} (out : List ℕ) (at tag : ℕ) (c : List ℕ) (e : length c ≡ k) (g : h ≡ headSize k) (f : at + length (element tag c) ≤ length out) where

@@ -12,6 +12,7 @@ use Rattle.table.specs.declared.rows.Row as code
 use Rattle.der.proofs.laws.Writing.{length-written, written-none, written-before}
 use Rattle.writer.specs.Families.{Table, Upto, none, openHeads, closing, own, onward, families}
 use Rattle.writer.specs.declared.families.Open.{Open}
+use Rattle.writer.specs.Writer.{choiceMost}
 use Rattle.writer.proofs.laws.Families.{tail}
 use Rattle.writer.proofs.Passing.{passed, Passed, pass-start, start-tail, pass-end, pass-own-few, tail-is, tail-fits, pass-turn}
 
@@ -87,7 +88,7 @@ module _ {kind : ℕ} {t : List ℕ} (b : Table kind t) {out left : List ℕ} {e
 
       module _ {start : ℕ} {left″ : List ℕ} (d : Upto left′ behind (own kind (seen row)) start left″) where
         -- which are few
-        pub place-few : list .size + (behind - start) ≤ 60000
+        pub place-few : list .size + (behind - start) ≤ choiceMost
         place-few =
             let p = d .place in
             omega (arith, v .rows .small, pass-own-few b (v .rows) h e)

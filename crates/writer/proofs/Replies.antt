@@ -23,7 +23,7 @@ use Rattle.der.proofs.laws.Writing.{written-on, head-written, element-is}
 use Rattle.values.specs.Limits.{asExtension}
 use Rattle.values.specs.Choices.{Choice}
 use Rattle.values.specs.Encode.{grouped, familyOctets, memberOctets, groupOctets, encode}
-use Rattle.writer.specs.Writer.{refusedAs, put, elementSize, rowless, write}
+use Rattle.writer.specs.Writer.{familiesMost, refusedAs, put, elementSize, rowless, write}
 use Rattle.writer.specs.Families.{Table, Upto, families}
 use Rattle.writer.specs.declared.Writing.{Writing}
 use Rattle.writer.specs.declared.Writing.the-variants as writing
@@ -68,12 +68,12 @@ module _ (kind : ℕ) (t out : List ℕ) where
     module _ (e : b ≡ true) {d : Bool} (q : d ≡ rowless kind (room t)) where
       -- no row
       pub reply-rowless : (r : Writing) → d ≡ true → r ≡ refusedAs refusal.EmptyList asExtension → (r, out) ≡ write kind t out
-      unfolding write rowless
+      unfolding write
       reply-rowless r f h = rw (ne-eqb kind mixedKind n, sym p ∙ e, sym q ∙ f, h)
 
       -- the value
       pub reply-value : (r : Writing) (left : List ℕ) → d ≡ false → (r, left) ≡ put (element SEQUENCE (families kind t)) out → (r, left) ≡ write kind t out
-      unfolding write rowless
+      unfolding write
       reply-value r left f h = rw (ne-eqb kind mixedKind n, sym p ∙ e, sym q ∙ f, encode-is kind t) h
 
   -- THE VALUE
@@ -86,12 +86,8 @@ module _ (kind : ℕ) (t out : List ℕ) where
     pub value-short : (r : Writing) → length out < size → r ≡ refusedAs refusal.OutputShort 0 → (r, out) ≡ put (element SEQUENCE (families kind t)) out
     value-short r l h = rw (size-is, lt-ltb (length out) size l, h)
 
-    -- there is room for the families
-    pub value-room : length (families kind t) ≤ size
-    value-room = omega arith
-
     -- all is written: the head first, then the families behind it
-    pub value-done : (start : ℕ) {left left′ : List ℕ} → size ≤ length out → inner ≤ 27136 → left ≡ headWritten out 0 SEQUENCE inner → Upto left size (families kind t) start left′
+    pub value-done : (start : ℕ) {left left′ : List ℕ} → size ≤ length out → inner ≤ familiesMost → left ≡ headWritten out 0 SEQUENCE inner → Upto left size (families kind t) start left′
         → (writing.Octets size, left′) ≡ put (element SEQUENCE (families kind t)) out
     value-done start {left} {left′} l m v w = rw (size-is, le-ltb (length out) size l) (ap (λ (x : List ℕ). (writing.Octets size, x)) done)
       where

@@ -5,7 +5,7 @@
 use mathlib.Core.Path.{_≡_, refl, sym, ap, _∙_}
 use mathlib.Core.List.{_++_}
 use Prim.Native.Nat.{ℕ, _^_, _≤_, _<_}
-use native.Mathlib.Nat.{mod-eq-of-lt, lt-of-le-of-lt}
+use native.Mathlib.Nat.{lt-of-le-of-lt}
 use native.Mathlib.Omega.{arith}
 use Rattle.number.specs.Halves.{whole, halves, bits}
 use Rattle.number.specs.Kept.{keptMin, keptMax, zeroFilled}
@@ -17,7 +17,7 @@ use Rattle.number.specs.declared.address.Address.{Address}
 use Rattle.number.specs.declared.shape.Shape.{Shape}
 use Rattle.number.specs.declared.shape.Shape.the-variants.{Prefix, Range}
 use Rattle.number.proofs.TwoHalves.{whole-halves}
-use Rattle.number.proofs.laws.Address.{address-back}
+use Rattle.number.proofs.laws.Address.{address-is}
 use Rattle.der.specs.Tags.{BIT-STRING, SEQUENCE}
 use Rattle.der.specs.Head.{element}
 use Rattle.der.specs.Bits.{bitsOf, bitsSize}
@@ -29,10 +29,6 @@ use Rattle.writer.specs.declared.Form as code
 use Rattle.writer.specs.declared.Form.the-variants as form
 use Rattle.writer.proofs.Sizing.{bits-most}
 
--- a number's address has it
-back : (width : Width) (x : ℕ) (a : Address) → x < 2 ^ bits width → a ≡ addressOf width x → numberOf a ≡ x
-back width x a b e = ap numberOf e ∙ address-back width x ∙ mod-eq-of-lt b
-
 -- the shape of two addresses
 module _ {s : Shape} {a b : Address} (width : Width) (low high : ℕ) (l : low ≤ high) (h : high < 2 ^ bits width)
     (p : a ≡ addressOf width low) (q : b ≡ addressOf width high) (e : s ≡ shapeOf (bits (a .width)) (numberOf a) (numberOf b)) where
@@ -40,7 +36,7 @@ module _ {s : Shape} {a b : Address} (width : Width) (low high : ℕ) (l : low �
   told : s ≡ shapeOf (bits width) low high
   told =
       let i : a .width ≡ width = ap (λ (x : Address). x .width) p in
-      e ∙ rw (back width low a (lt-of-le-of-lt l h) p, back width high b h q, i)
+      e ∙ rw (address-is width low a (lt-of-le-of-lt l h) p, address-is width high b h q, i)
 
   -- a prefix
   pub shape-prefix : (n : ℕ) → s ≡ Prefix n → form.Prefix n ≡ formSeen (formOf (bits width) low high)

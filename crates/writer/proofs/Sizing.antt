@@ -1,64 +1,32 @@
 -- How many octets heads and elements have, and that they are few. Theorems. Assumes nothing.
---     head-two, head-most      a head
---     bits-most, integer-most      the contents of a BIT STRING that begins an address, and of an INTEGER
+--     bits-most      the contents of a BIT STRING that begins an address
 --     Few      a size that the code gives: it is that of the octets, and at most 40.      bits-few, integer-few        one element
 --     Two      the sizes of two elements.      bits-two, integer-two       BIT STRINGs, and INTEGERs.      two-few      both in a SEQUENCE
 use mathlib.Core.Path.{_≡_, sym, _∙_}
 use mathlib.Core.List.{List, _++_}
-use mathlib.Core.Bool.{Bool, true, false}
-use Prim.Native.Nat.{ℕ, _+_, _^_, _≤_, _<_}
+use Prim.Native.Nat.{ℕ, _+_, _≤_}
 use native.Mathlib.Omega.{arith}
-use lib.Dec.{ltb}
 use lib.ListN.{length, length-append}
-use borrow.Author.Tests.{lt-ltb}
-use Rattle.number.specs.Tests.{pick}
 use Rattle.number.specs.Halves.{bits}
 use Rattle.number.specs.declared.halves.Width.{Width}
 use Rattle.number.proofs.Sixteen.{width-octets}
 use Rattle.der.specs.Tags.{INTEGER, BIT-STRING, SEQUENCE}
-use Rattle.der.specs.Head.{element, headSize}
+use Rattle.der.specs.Head.{element}
 use Rattle.der.specs.Bits.{bitsOf, bitsSize}
 use Rattle.der.specs.Integer.{integerSize, integerOctets}
-use Rattle.der.proofs.laws.Heads.{element-size}
+use Rattle.der.proofs.laws.Heads.{head-two, element-size}
 use Rattle.der.proofs.laws.Bits.{bits-size}
-use Rattle.der.proofs.laws.Integers.{integer-size}
-use Rattle.writer.specs.Writer.{elementSize}
-
--- few octets have a head of two
-pub head-two : (n : ℕ) → n < 128 → headSize n ≡ 2
-unfolding headSize
-head-two n h = rw (lt-ltb n 128 h)
-
--- and no octets one of more than four
-pub head-most : (n : ℕ) → headSize n ≤ 4
-unfolding headSize
-head-most n = go (ltb n 128) (ltb n 256)
-  where
-    go : (a b : Bool) → pick a 2 (pick b 3 4) ≤ 4
-    go true b = omega arith
-    go false true = omega arith
-    go false false = omega arith
+use Rattle.der.proofs.laws.Integers.{integer-size, integer-most}
+use Rattle.writer.specs.Writer.{rowMost, elementSize}
 
 -- the bits of an address
 pub bits-most : (width : Width) (n : ℕ) → n ≤ bits width → bitsSize n ≤ 17
 unfolding bitsSize
 bits-most width n h = let (d, m) = width-octets width in omega arith
 
--- a number of 32 bits
-pub integer-most : (x : ℕ) → integerSize x ≤ 5
-unfolding integerSize
-integer-most x = go (ltb x (2 ^ 7)) (ltb x (2 ^ 15)) (ltb x (2 ^ 23)) (ltb x (2 ^ 31))
-  where
-    go : (a b c d : Bool) → pick a 1 (pick b 2 (pick c 3 (pick d 4 5))) ≤ 5
-    go true b c d = omega arith
-    go false true c d = omega arith
-    go false false true d = omega arith
-    go false false false true = omega arith
-    go false false false false = omega arith
-
 -- r is how many octets s has, and few
 abbrev pub Few : ℕ → List ℕ → Type 0
-Few r s = (r ≡ length s) × (r ≤ 40)
+Few r s = (r ≡ length s) × (r ≤ rowMost)
 
 -- elements with the contents c and d have a and b octets, few
 pub record Two (t : ℕ) (c d : List ℕ) (a b : ℕ) : Type 0 where

@@ -15,7 +15,7 @@ use Rattle.der.specs.Walk.{all}
 use Rattle.der.specs.Written.{written}
 use Rattle.values.specs.Choices.{inherit}
 use Rattle.values.specs.Encode.{grouped, rowOctets, groupOctets, groupHeads}
-use Rattle.writer.specs.Writer.{elementSize, Lists}
+use Rattle.writer.specs.Writer.{listMost, elementSize, Lists}
 use Rattle.writer.specs.declared.families.Open.{Open}
 
 -- the octets of all families of a table
@@ -45,7 +45,7 @@ none = record { space = 0; size = 0 }
 -- its space is of the kind, and its elements are few enough
 pub record Opened (kind : ℕ) (o : Open) : Type 0 where
   pub own : (o .space ≡ 0 → ⊥) → kindOf (o .space) ≡ kind
-  pub few : o .size ≤ 50000
+  pub few : o .size ≤ listMost
 
 -- its heads: what stands in its family before its elements
 unfoldable pub openHeads : ℕ → Open → List ℕ

@@ -1,2 +1,3 @@
 pub mod Writer
 pub mod Families
+pub mod Papers

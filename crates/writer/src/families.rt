@@ -33,6 +33,9 @@ pub struct Open {
     pub size: usize,
 }
 
+// There is none.
+const NONE: Open = Open { space: 0, size: 0 };
+
 // Whether a row joins the open list.
 fn joins(list: Open, row: Row) -> bool
     ensures { λ r. ⌜ r ≡ spec.joins list (seen row) ⌝ }
@@ -45,11 +48,11 @@ fn joins(list: Open, row: Row) -> bool
 
 // The open list with a row of n octets in front.
 fn onward(list: Open, row: Row, n: usize) -> Open
-    requires { ⌜ list .size + n ≤ 60000 ⌝ }
+    requires { ⌜ list .size + n ≤ reply.choiceMost ⌝ }
     ensures { λ r. ⌜ r ≡ spec.onward list (seen row) n ⌝ }
 {
     if row.inherit == 1 {
-        return Open { space: 0, size: 0 };
+        return NONE;
     }
     if row.space == list.space {
         return Open {
@@ -65,16 +68,16 @@ fn onward(list: Open, row: Row, n: usize) -> Open
 
 // How many octets stand in a family before the n octets of its choice's contents.
 fn frame_size(kind: u64, space: u64, n: usize) -> usize
-    requires { ⌜ n ≤ 50000 ⌝ }
-    ensures { λ r. ⌜ (r ≡ length (spec.frame kind space SEQUENCE n)) × (r ≤ 13) ⌝ }
+    requires { ⌜ n ≤ reply.listMost ⌝ }
+    ensures { λ r. ⌜ (r ≡ length (spec.frame kind space SEQUENCE n)) × (r ≤ reply.headsMost) ⌝ }
 {
     heads_size(kind, space, element_size(n)) + heads::head_size(n)
 }
 
 // How many octets the heads of the open list have; 0 where there is none.
 fn open_size(kind: u64, list: Open) -> usize
-    requires { ⌜ list .size ≤ 50000 ⌝ }
-    ensures { λ r. ⌜ (r ≡ length (spec.openHeads kind list)) × (r ≤ 13) ⌝ }
+    requires { ⌜ list .size ≤ reply.listMost ⌝ }
+    ensures { λ r. ⌜ (r ≡ length (spec.openHeads kind list)) × (r ≤ reply.headsMost) ⌝ }
 {
     if list.space == 0 {
         return 0;
@@ -84,8 +87,8 @@ fn open_size(kind: u64, list: Open) -> usize
 
 // How many octets the heads have that stand behind a row.
 fn closing_size(kind: u64, list: Open, row: Row) -> usize
-    requires { ⌜ list .size ≤ 50000 ⌝ }
-    ensures { λ r. ⌜ (r ≡ length (spec.closing kind list (seen row))) × (r ≤ 13) ⌝ }
+    requires { ⌜ list .size ≤ reply.listMost ⌝ }
+    ensures { λ r. ⌜ (r ≡ length (spec.closing kind list (seen row))) × (r ≤ reply.headsMost) ⌝ }
 {
     if joins(list, row) {
         return 0;
@@ -96,7 +99,7 @@ fn closing_size(kind: u64, list: Open, row: Row) -> usize
 // How many octets a row has of its own.
 fn own_size(kind: u64, row: Row) -> usize
     requires { ⌜ spec.Own kind (seen row) ⌝ }
-    ensures { λ r. ⌜ (r ≡ length (spec.own kind (seen row))) × (r ≤ 40) ⌝ }
+    ensures { λ r. ⌜ (r ≡ length (spec.own kind (seen row))) × (r ≤ reply.rowMost) ⌝ }
 {
     if row.inherit == 1 {
         return frame_size(kind, row.space, 0);
@@ -107,10 +110,10 @@ fn own_size(kind: u64, row: Row) -> usize
 // How many octets the families of a table have.
 fn size(kind: u64, table: &[u64]) -> usize
     requires { ⌜ spec.Table kind (now table) ⌝ }
-    ensures { λ r. ⌜ (r ≡ length (spec.families kind (now (table .entry)))) × (r ≤ 27136) ⌝ }
+    ensures { λ r. ⌜ (r ≡ length (spec.families kind (now (table .entry)))) × (r ≤ reply.familiesMost) ⌝ }
 {
     let mut k = table.len() / rows::ROW;
-    let mut list = Open { space: 0, size: 0 };
+    let mut list = NONE;
     let mut size: usize = 0;
     while 0 < k {
         k -= 1;
@@ -124,7 +127,7 @@ fn size(kind: u64, table: &[u64]) -> usize
 
 // Writes what stands in a family before the n octets of its choice's contents, up to a place. Returns where it starts.
 fn put_frame(out: &mut [u8], end: usize, kind: u64, space: u64, tag: u8, n: usize) -> usize
-    requires { ⌜ (kindOf space ≡ kind) × (n ≤ 50000) × (length (spec.frame kind space tag n) ≤ end) × (end ≤ length (now out)) ⌝ }
+    requires { ⌜ (kindOf space ≡ kind) × (n ≤ reply.listMost) × (length (spec.frame kind space tag n) ≤ end) × (end ≤ length (now out)) ⌝ }
     ensures { λ r. ⌜ spec.Upto (now (out .entry)) end (spec.frame kind space tag n) r (now (out .exit)) ⌝ }
 {
     let choice = end - heads::head_size(n);
@@ -184,7 +187,7 @@ fn put(kind: u64, table: &[u64], out: &mut [u8], end: usize) -> usize
     ensures { λ r. ⌜ spec.Upto (now (out .entry)) end (spec.families kind (now (table .entry))) r (now (out .exit)) ⌝ }
 {
     let mut k = table.len() / rows::ROW;
-    let mut list = Open { space: 0, size: 0 };
+    let mut list = NONE;
     let mut at = end;
     while 0 < k {
         k -= 1;

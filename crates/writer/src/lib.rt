@@ -1,5 +1,6 @@
 // The writer: the rows of a table as the one encoding of its value, for both kinds.
 // Lengths are computed first; then the octets are written once, from the last row to the first, each element in its place.
+// The pieces ask something of their caller, so they are private; they stand here, where `families`, which has the entry, sees them.
 mod families;
 
 use der::bits;
@@ -12,14 +13,15 @@ use number::halves::Halves;
 use number::halves::Width;
 use number::kept;
 use values::limits;
+use values::readings;
 use values::readings::Refused;
 ghost use mathlib.Core.Path.{_≡_};
 ghost use Prim.Native.Nat.{_+_, _^_, _<_, _≤_};
 ghost use lib.ListN.{length};
 ghost use Rattle.number.specs.Halves.{whole, bits as bitsOf};
 ghost use Rattle.table.specs.Rows.{seen};
-ghost use Rattle.table.specs.Spaces.{kindOf};
-ghost use Rattle.der.specs.Tags.{BIT-STRING, INTEGER, OCTET-STRING, SEQUENCE};
+ghost use Rattle.table.specs.Spaces.{ipKind, kindOf};
+ghost use Rattle.der.specs.Tags.{BIT-STRING, INTEGER, OCTET-STRING};
 ghost use Rattle.der.specs.Head.{element};
 ghost use Rattle.der.specs.Bits.{bitsOf as bitOctets};
 ghost use Rattle.der.specs.Integer.{integerOctets};
@@ -43,16 +45,7 @@ pub enum Writing {
 fn refuse(refusal: Refusal, extension: u64) -> Writing
     ensures { λ r. ⌜ r ≡ spec.refusedAs refusal extension ⌝ }
 {
-    let zero = Halves { upper: 0, lower: 0 };
-    let fault = Refused {
-        refusal: refusal,
-        certificate: 0,
-        extension: extension,
-        place: 0,
-        space: 0,
-        value: zero,
-    };
-    Writing::Refused(fault)
+    Writing::Refused(readings::naming(refusal, 0, extension, 0))
 }
 
 // How many octets an element with so many octets of contents has.
@@ -84,7 +77,7 @@ fn form_of(width: Width, low: Halves, high: Halves) -> Form
 
 fn address_size(width: Width, low: Halves, high: Halves) -> usize
     requires { ⌜ (whole low ≤ whole high) × (whole high < 2 ^ bitsOf width) ⌝ }
-    ensures { λ r. ⌜ (r ≡ length (addressOctets (bitsOf width) (whole low, whole high))) × (r ≤ 40) ⌝ }
+    ensures { λ r. ⌜ (r ≡ length (addressOctets (bitsOf width) (whole low, whole high))) × (r ≤ spec.rowMost) ⌝ }
 {
     match form_of(width, low, high) {
         Form::Prefix(n) => element_size(bits::octets(n)),
@@ -95,7 +88,7 @@ fn address_size(width: Width, low: Halves, high: Halves) -> usize
 }
 
 fn id_size(low: u32, high: u32) -> usize
-    ensures { λ r. ⌜ (r ≡ length (idOctets (low, high))) × (r ≤ 40) ⌝ }
+    ensures { λ r. ⌜ (r ≡ length (idOctets (low, high))) × (r ≤ spec.rowMost) ⌝ }
 {
     let min = element_size(integers::octets(low));
     if low == high {
@@ -106,7 +99,7 @@ fn id_size(low: u32, high: u32) -> usize
 
 fn row_size(kind: u64, row: Row) -> usize
     requires { ⌜ spec.Lists kind (seen row) ⌝ }
-    ensures { λ r. ⌜ (r ≡ length (rowOctets kind (seen row))) × (r ≤ 40) ⌝ }
+    ensures { λ r. ⌜ (r ≡ length (rowOctets kind (seen row))) × (r ≤ spec.rowMost) ⌝ }
 {
     if kind == spaces::IP {
         return address_size(spaces::width(row.space), row.low, row.high);
@@ -206,8 +199,8 @@ fn space_size(space: u64) -> usize
 
 // How many octets stand in a family, or in a member, before its choice of so many octets.
 fn heads_size(kind: u64, space: u64, choice: usize) -> usize
-    requires { ⌜ choice ≤ 60000 ⌝ }
-    ensures { λ r. ⌜ (r ≡ length (groupHeads kind space choice)) × (r ≤ 9) ⌝ }
+    requires { ⌜ choice ≤ spec.choiceMost ⌝ }
+    ensures { λ r. ⌜ (r ≡ length (groupHeads kind space choice)) × (r ≤ spec.groupMost) ⌝ }
 {
     if kind == spaces::IP {
         let first = element_size(space_size(space));
@@ -225,7 +218,7 @@ fn octet(x: u64) -> u8
 
 // Writes an addressFamily at a place.
 fn put_space(out: &mut [u8], at: usize, space: u64)
-    requires { ⌜ (kindOf space ≡ 1) × (at + length (element OCTET-STRING (spaceOctets space)) ≤ length (now out)) ⌝ }
+    requires { ⌜ (kindOf space ≡ ipKind) × (at + length (element OCTET-STRING (spaceOctets space)) ≤ length (now out)) ⌝ }
     ensures { λ _. ⌜ now (out .exit) ≡ written (now (out .entry)) at (element OCTET-STRING (spaceOctets space)) ⌝ }
 {
     let afi = octet(space / 1024);
@@ -239,7 +232,7 @@ fn put_space(out: &mut [u8], at: usize, space: u64)
 
 // Writes what stands in a family, or in a member, before its choice of so many octets.
 fn put_heads(out: &mut [u8], at: usize, kind: u64, space: u64, choice: usize)
-    requires { ⌜ (kindOf space ≡ kind) × (choice ≤ 60000) × (at + length (groupHeads kind space choice) ≤ length (now out)) ⌝ }
+    requires { ⌜ (kindOf space ≡ kind) × (choice ≤ spec.choiceMost) × (at + length (groupHeads kind space choice) ≤ length (now out)) ⌝ }
     ensures { λ _. ⌜ now (out .exit) ≡ written (now (out .entry)) at (groupHeads kind space choice) ⌝ }
 {
     if kind == spaces::IP {

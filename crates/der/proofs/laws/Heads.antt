@@ -1,6 +1,6 @@
 -- A DER head, both ways, and what the code says of one. Theorems. Assumes nothing.
 --     head-element, element-head      what `element` writes is read, and what is read was written by `element`
---     head-size, element-size      how many octets there are
+--     head-size, element-size      how many octets there are.      head-two, head-few       a head has few
 --     opening-head     what the code says of an element is what `head` says.      Opens, opening-opens     and where its contents lie
 use mathlib.Core.Path.{_≡_, refl, sym, ap, _∙_}
 use mathlib.Core.List.{List, [], _∷_, _++_}
@@ -135,6 +135,21 @@ head-size t n = go (ltb n 128) (ltb n 256)
     go false true = refl
     go false false = refl
 
+-- few octets have a head of two
+pub head-two : (n : ℕ) → n < 128 → headSize n ≡ 2
+unfolding headSize
+head-two n h = rw (lt-ltb n 128 h)
+
+-- and each has one of two to four
+pub head-few : (n : ℕ) → (2 ≤ headSize n) × (headSize n ≤ 4)
+unfolding headSize
+head-few n = go (ltb n 128) (ltb n 256)
+  where
+    go : (a b : Bool) → (2 ≤ pick a 2 (pick b 3 4)) × (pick a 2 (pick b 3 4) ≤ 4)
+    go true b = omega arith
+    go false true = omega arith
+    go false false = omega arith
+
 -- and the element's
 pub element-size : (t : ℕ) (c : List ℕ) → length (element t c) ≡ headSize (length c) + length c
 unfolding element headOctets
@@ -183,7 +198,7 @@ pub record Opens (s : List ℕ) (k e : ℕ) : Type 0 where
   pub inside : e ≤ length s
 
 -- a refusal says no place
-not-is : {r : Refusal} {k e : ℕ} → Bad r ≡ Is k e → ⊥
+pub not-is : {r : Refusal} {k e : ℕ} → Bad r ≡ Is k e → ⊥
 not-is h = let z : _≡_ {A = ℕ} 0 1 = cc in omega arith
 
 -- by the contents

@@ -1,6 +1,6 @@
 -- The contents of an INTEGER, both ways. Theorems. Assumes nothing.
 --     integer-read, read-integer       what `integerOctets` writes is read, and what is read was written by `integerOctets`
---     integer-size     how many octets it takes
+--     integer-size     how many octets it takes.      integer-most     they are at most five
 --     Takes        what "minimal" says of a number: it has one size (`takes-once`), and that is `integerSize` (`size-takes`)
 use mathlib.Core.Path.{_≡_, refl, sym, ap, _∙_}
 use mathlib.Core.List.{List, [], _∷_}
@@ -141,3 +141,15 @@ read-integer (a ∷ s) x b h =
 pub integer-size : (x : ℕ) → length (integerOctets x) ≡ integerSize x
 unfolding integerOctets
 integer-size x = octets-length (integerSize x) x
+
+-- and that is at most five
+pub integer-most : (x : ℕ) → integerSize x ≤ 5
+unfolding integerSize
+integer-most x = go (ltb x (2 ^ 7)) (ltb x (2 ^ 15)) (ltb x (2 ^ 23)) (ltb x (2 ^ 31))
+  where
+    go : (a b c d : Bool) → pick a 1 (pick b 2 (pick c 3 (pick d 4 5))) ≤ 5
+    go true b c d = omega arith
+    go false true c d = omega arith
+    go false false true d = omega arith
+    go false false false true = omega arith
+    go false false false false = omega arith

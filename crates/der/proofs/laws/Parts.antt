@@ -1,5 +1,5 @@
 -- The laws of a reader made of smaller ones, from theirs. Theorems. Assumes nothing.
---     tagged-laws   two-laws   only-laws   sifted-laws   admitted-laws   list-laws   some-laws
+--     tagged-laws   two-laws   only-laws   sifted-laws   admitted-laws   list-laws
 use mathlib.Core.Path.{_≡_, refl, sym, ap, _∙_}
 use mathlib.Core.List.{List, [], _∷_, _++_, append-assoc, append-nil}
 use mathlib.Core.Logic.{_↔_}
@@ -12,10 +12,11 @@ use Rattle.number.specs.Octets.{Octets}
 use Rattle.number.specs.declared.refusal.Refusal.{Refusal}
 use Rattle.number.specs.declared.refusal.Refusal.the-variants as refusal
 use Rattle.number.proofs.Picks.{pick-not, pick-is}
+use Rattle.number.proofs.laws.Octets.{octets-left}
 use Rattle.der.specs.Head.{Head, found, fault, head, element, headSize}
 use Rattle.der.specs.Walk.{Step, got, no, Done, done, stop, all, Run, decAll}
-use Rattle.der.specs.Parts.{Contents, is, isnt, Part, part, nopart, closed, opened, tagged, second, first, two, ended, only, sifted, arrived, entered, admitted, gathered, listOf, filled, someOf}
-use Rattle.der.proofs.Tails.{octets-left, octets-right}
+use Rattle.der.specs.Parts.{Contents, is, isnt, Part, part, nopart, closed, opened, tagged, second, first, two, ended, only, sifted, arrived, entered, admitted, gathered, listOf}
+use Rattle.der.proofs.Tails.{octets-right}
 use Rattle.der.proofs.laws.Heads.{Sized, head-element, element-head, element-size, element-longer, octets-element, tag-first}
 use Rattle.der.proofs.laws.Walks.{Laws, dec-reads, dec-wrote}
 
@@ -42,7 +43,7 @@ pub no-got : {X S E : Type 0} {e : E} {x : X} {σ : S} {rest : List ℕ} → no 
 no-got h = let z : _≡_ {A = ℕ} 0 1 = cc in omega arith
 
 -- the contents of a part that was read
-closed-was : {X E : Type 0} (o : Contents X E) (x : X) (r rest : List ℕ) → closed o r ≡ part x rest → (o ≡ is x) × (r ≡ rest)
+pub closed-was : {X E : Type 0} (o : Contents X E) (x : X) (r rest : List ℕ) → closed o r ≡ part x rest → (o ≡ is x) × (r ≡ rest)
 closed-was (is y) x r rest h = (cc, cc)
 closed-was (isnt e) x r rest h = absurd (no-part h)
 
@@ -227,23 +228,4 @@ module _ {X S E : Type 0} {step : S → List ℕ → Step X S E} {enc : X → Li
   list-laws = record {
     reads = λ xs o z. rw (dec-reads laws (o .1) z);
     wrote = λ c xs b h. let (σ′, p) = gathered-was (decAll step σ c) xs h in let (e, r) = dec-wrote laws σ c σ′ xs b p in (e, (σ′, r));
-  }
-
-  -- what is not empty
-  filled-was : (none : E) (o : Contents (List X) E) (xs : List X) → filled none o ≡ is xs → (o ≡ is xs) × (0 < length xs)
-  filled-was none (isnt e) xs h = absurd (no-is h)
-  filled-was none (is []) xs h = absurd (no-is h)
-  filled-was none (is (y ∷ ys)) xs h = let p : y ∷ ys ≡ xs = cc in (h, rw (← p) (omega arith))
-
-  -- and stays as it is
-  filled-is : (none : E) (xs : List X) → 0 < length xs → filled none (is xs) ≡ is xs
-  filled-is none [] h = absurd (omega arith)
-  filled-is none (x ∷ xs) h = refl
-
-  -- both ways
-  pub some-laws : (none : E) → Inner (someOf none step σ) (all enc) (λ xs. ((σ′ : S) × Run Good σ xs σ′) × (0 < length xs))
-  unfolding someOf
-  some-laws none = record {
-    reads = λ xs o z. rw (list-laws .reads xs (o .0) z) (filled-is none xs (o .1));
-    wrote = λ c xs b h. let (p, l) = filled-was none (listOf step σ c) xs h in let (e, r) = list-laws .wrote c xs b p in (e, (r, l));
   }

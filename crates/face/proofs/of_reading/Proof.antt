@@ -1,6 +1,6 @@
 -- `face::of_reading` meets its contract. Assumes nothing.
 use borrow.Author.Needs.{needs}
-use Rattle.values.specs.Readings.{paper}
+use Rattle.values.specs.Papers.{paper}
 use Rattle.face.proofs.Replying.{case-of}
 use Rattle.face.proofs.of_reading.Statement.{statement}
 use Rattle.face.proofs.of_reading.Tie as tie

@@ -1,6 +1,6 @@
 -- `face::of_reply` meets its contract. Assumes nothing.
 use borrow.Author.Needs.{needs}
-use Rattle.path.specs.Replies.{paper}
+use Rattle.path.specs.Papers.{paper}
 use Rattle.face.proofs.Replying.{case-of}
 use Rattle.face.proofs.of_reply.Statement.{statement}
 use Rattle.face.proofs.of_reply.Tie as tie

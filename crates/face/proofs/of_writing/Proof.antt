@@ -1,6 +1,6 @@
 -- `face::of_writing` meets its contract. Assumes nothing.
 use borrow.Author.Needs.{needs}
-use Rattle.writer.specs.Writer.{paper}
+use Rattle.writer.specs.Papers.{paper}
 use Rattle.face.proofs.Replying.{case-of}
 use Rattle.face.proofs.of_writing.Statement.{statement}
 use Rattle.face.proofs.of_writing.Tie as tie

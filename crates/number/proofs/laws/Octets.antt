@@ -2,14 +2,17 @@
 --     octets-length, octets-value      k octets spell each number below 2 ^ (8 * k)
 --     value-below, value-octets        and octets are those of the number that they spell
 --     value-append                     the number that two parts spell
-use mathlib.Core.Path.{_≡_, refl, ap}
+--     octets-drop, octets-left, octets-part        octets in parts
+--     first-of                         the first of eight octets, by the number that the eight spell
+use mathlib.Core.Path.{_≡_, refl, sym, ap, _∙_}
 use mathlib.Core.List.{List, [], _∷_, _++_}
-use Prim.Native.Nat.{ℕ, zero, suc, _+_, _*_, _%_, _^_, _<_}
+use Prim.Native.Nat.{ℕ, zero, suc, _+_, _-_, _*_, _/_, _%_, _^_, _≤_, _<_}
 use native.Mathlib.Omega.{arith}
 use native.Mathlib.Nat.{mod-lt}
-use lib.ListN.{length, length-append}
+use lib.ListN.{length, take, drop, length-append, length-drop, take-append-drop}
 use lib.Arith.{digits-lt}
 use lib.Pow.{pow-pos, pow-add, split, high, low}
+use lib.Seq.{getD-drop}
 use Rattle.number.specs.Octets.{Octets, value, octets}
 
 -- k octets are k
@@ -49,3 +52,27 @@ value-append [] t = omega arith
 value-append (x ∷ s) t =
     let e : 8 * length (s ++ t) ≡ 8 * length s + 8 * length t = omega (arith, length-append s t) in
     rw (e, pow-add 2 (8 * length s) (8 * length t), value-append s t) (omega arith)
+
+-- octets without the first ones
+pub octets-drop : (n : ℕ) (s : List ℕ) → Octets s → Octets (drop n s)
+unfolding Octets
+octets-drop n s b k = rw getD-drop (b (n + k))
+
+-- the first of two parts
+pub octets-left : (s t : List ℕ) → Octets (s ++ t) → Octets s
+unfolding Octets
+octets-left [] t b k = omega arith
+octets-left (x ∷ s) t b zero = b zero
+octets-left (x ∷ s) t b (suc k) = octets-left s t (octets-tail x (s ++ t) b) k
+
+-- octets from k on, n of them
+pub octets-part : (k n : ℕ) (s : List ℕ) → Octets s → Octets (take n (drop k s))
+octets-part k n s o = octets-left (take n (drop k s)) (drop n (drop k s)) (rw take-append-drop (octets-drop k s o))
+
+-- the first k of eight octets, by the number that the eight spell
+pub first-of : (k : ℕ) (t : List ℕ) → Octets t → k ≤ 8 → length t ≡ 8 → value t / 2 ^ (64 - 8 * k) ≡ value (take k t)
+first-of k t o h l =
+    let n : 8 * length (drop k t) ≡ 64 - 8 * k = omega (arith, length-drop k t) in
+    let b : value (drop k t) < 2 ^ (64 - 8 * k) = rw n at (value-below (drop k t) (octets-drop k t o)) in
+    let e : value t ≡ value (take k t) * 2 ^ (64 - 8 * k) + value (drop k t) = ap value (sym (take-append-drop k t)) ∙ rw n at (value-append (take k t) (drop k t)) in
+    ap (λ (y : ℕ). y / 2 ^ (64 - 8 * k)) e ∙ high (value (take k t)) (64 - 8 * k) b

@@ -4,9 +4,13 @@ use mathlib.Core.List.{List, [], _∷_}
 use Prim.Native.Nat.{ℕ, _-_}
 use native.Mathlib.Omega.{arith}
 use lib.ListN.{getD}
+use lib.Dec.{eqb}
+use borrow.Author.Tests.{ne-eqb}
+use Rattle.number.specs.Tests.{pick}
 use Rattle.number.specs.Refusal.{numberOf}
 use Rattle.number.specs.declared.refusal.Refusal.{Refusal}
 use Rattle.number.specs.declared.refusal.Refusal.the-variants as r
+use Rattle.number.proofs.laws.Papers.{apart}
 
 -- the refusals in the order of their numbers
 abbrev pub refusals : List Refusal
@@ -43,8 +47,16 @@ refusal-back r.OutputShort = refl
 
 -- one number, one refusal
 pub tells-apart : (a b : Refusal) → numberOf a ≡ numberOf b → a ≡ b
-tells-apart a b e = sym (refusal-back a) ∙ ap refusalOf e ∙ refusal-back b
+tells-apart = apart numberOf refusalOf refusal-back
 
 -- no refusal has the number 0
 pub never-zero : (a : Refusal) → numberOf a ≡ 0 → ⊥
 never-zero a e = let n = ap numberOf (sym (refusal-back a) ∙ ap refusalOf e) in omega arith
+
+-- an answer by its first number: nothing is refused, or a refusal
+abbrev pub answered : {A : Type 0} → ℕ → A → (Refusal → A) → A
+answered n fine bad = pick (eqb n 0) fine (bad (refusalOf n))
+
+-- a refusal is had again so
+pub refused-back : {A : Type 0} (fine : A) (bad : Refusal → A) (r : Refusal) → answered (numberOf r) fine bad ≡ bad r
+refused-back fine bad r = rw (ne-eqb (numberOf r) 0 (never-zero r)) (ap bad (refusal-back r))

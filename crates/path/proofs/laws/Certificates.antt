@@ -28,7 +28,7 @@ use Rattle.path.specs.Walk.{Result, covered, missing, walk}
 use Rattle.path.specs.Inherit.{Spaces}
 use Rattle.path.specs.Replies.{faultAt}
 use Rattle.path.specs.Certificate.{Above, Step, onward, carried, valueStep, ipStep, asStep, readStep, lacked, spacesStep, countStep, walkStep, holdStep, afterInheritance, afterPresence, afterReading, certificate}
-use Rattle.path.specs.Demand.{Extension, absent, carries, Certificate, rowsIn, listing, Lacks, LacksIp, LacksIds, Present, Inheriting, rowsAt, Fits, Proper, valueOf, pairsAt, Smaller, Missing, Fault}
+use Rattle.path.specs.Demand.{Extension, absent, carries, Certificate, carriedRows, listing, Lacks, LacksIp, LacksIds, Present, Inheriting, rowsAt, Fits, Proper, valueOf, pairsAt, Smaller, Missing, Fault}
 use Rattle.path.proofs.laws.Walks.{Contained, Smallest, sound, smallest}
 use Rattle.path.proofs.laws.Lacking.{Covers, covers}
 use Rattle.path.proofs.laws.Lines.{listing-tidy, line-holds, holds-line, rows-list, rows-tidy, Passes, Passing, line-lists, line-tidy, line-space, space-line}
@@ -44,20 +44,20 @@ value-is {kind} n extension rows k a =
     let s = encode-size kind rows k a in
     rw (carried-is rows k a, le-ltb maxOctets (length (encode kind rows)) (s .1))
 
-ip-is : (n : ℕ) (x : Extension) → Fits ipKind x → ipStep n (valueOf ipKind x) ≡ is (rowsIn x)
+ip-is : (n : ℕ) (x : Extension) → Fits ipKind x → ipStep n (valueOf ipKind x) ≡ is (carriedRows x)
 unfolding ipStep
 ip-is n absent f = refl
 ip-is n (carries rows) f = rw (ip-reads rows f) (value-is n ipExtension rows (inl refl) f)
 
-as-is : (n m : ℕ) (x : Extension) → Fits asKind x → m + length (rowsIn x) ≤ maxRows → asStep n m (valueOf asKind x) ≡ is (rowsIn x)
+as-is : (n m : ℕ) (x : Extension) → Fits asKind x → m + length (carriedRows x) ≤ maxRows → asStep n m (valueOf asKind x) ≡ is (carriedRows x)
 unfolding asStep
 as-is n m absent f l = refl
 as-is n m (carries rows) f l = rw (as-reads m rows f l) (value-is n asExtension rows (inr refl) f)
 
 pub reads : (n : ℕ) (c : Certificate) → Proper c → readStep n (valueOf ipKind (c .ip)) (valueOf asKind (c .ids)) ≡ is (listing c)
 reads n c p =
-    let l = length-append (rowsIn (c .ip)) (rowsIn (c .ids)) in
-    rw (ip-is n (c .ip) (p .ip), as-is n (length (rowsIn (c .ip))) (c .ids) (p .ids) (omega (arith, p .few)))
+    let l = length-append (carriedRows (c .ip)) (carriedRows (c .ids)) in
+    rw (ip-is n (c .ip) (p .ip), as-is n (length (carriedRows (c .ip))) (c .ids) (p .ids) (omega (arith, p .few)))
 
 -- 13: WHICH EXTENSION THE ISSUER LACKS
 

@@ -4,22 +4,21 @@
 --     framing-exact    what is accepted as framed is the writing of so many certificates
 use mathlib.Core.Path.{_≡_, refl, sym, ap, _∙_}
 use mathlib.Core.List.{List, [], _∷_, _++_, append-assoc}
-use mathlib.Core.Bool.{true, false}
+use mathlib.Core.Bool.{true, false, false≢true}
 use Prim.Native.Nat.{ℕ, zero, suc, _+_, _*_, _/_, _%_, _≤_, _<_}
 use native.Mathlib.Omega.{arith}
 use lib.ListN.{length, getD, take, drop, length-append, take-append-drop}
 use lib.Dec.{ltb, eqb}
-use lib.Seq.{length-take-le, drop-cons, drop-drop, take-append-seam, drop-append-seam, getD-drop}
-use borrow.Author.Tests.{ltb-false, eqb-true, eqb-false}
+use lib.Seq.{length-take-le, drop-cons, drop-drop, take-append-seam, drop-append-seam}
+use borrow.Author.Tests.{eqb-true}
 use Rattle.number.specs.Octets.{Octets}
-use Rattle.number.specs.declared.refusal.Refusal.{Refusal}
-use Rattle.number.specs.declared.refusal.Refusal.the-variants as refusal
 use Rattle.number.proofs.Picks.{picks, pick-not, pick-is}
+use Rattle.number.proofs.laws.Octets.{octets-drop}
 use Rattle.path.specs.Bundle.{leastOctets, mostOctets, mostCertificates, endOf, onAfter, isValues, isMarked, frameOf, valueIn, afterValue, certificatesIn, valueOctets, certificatesOctets, bundleOf}
-use Rattle.path.specs.declared.bundles.Framing.the-variants.{Certificates, Refused}
+use Rattle.path.specs.declared.bundles.Framing.the-variants.{Certificates}
 use Rattle.path.specs.declared.bundles.End.{End}
 use Rattle.path.specs.declared.bundles.End.the-variants as end
-use Rattle.path.proofs.Framed.{Ends, ends, length-is, end-at}
+use Rattle.path.proofs.Framed.{Ends, ends, length-is, end-at, bundled}
 
 -- WHAT IS WRITTEN IS FRAMED
 
@@ -85,11 +84,6 @@ framing-finds cs = go cs
 
 -- WHAT IS FRAMED WAS WRITTEN
 
--- octets after the first k are octets
-octets-after : (k : ℕ) (s : List ℕ) → Octets s → Octets (drop k s)
-unfolding Octets
-octets-after k s o i = rw getD-drop (o (k + i))
-
 -- s begins with a value, and so many are left after it
 record Value (k : ℕ) (s : List ℕ) : Type 0 where
   value : List ℕ
@@ -115,7 +109,7 @@ value-written k (x ∷ y ∷ s) e o w h =
       rest = drop n s;
       written = rw (hi, lo, take-append-drop n s);
       left = sym (ap (isValues k) d) ∙ h;
-      octets = octets-after n s (λ i. o (suc (suc i)));
+      octets = octets-drop n s (λ i. o (suc (suc i)));
     }
 
 -- the first of the values
@@ -159,15 +153,12 @@ head-of b l = cc (drop-cons b 0 0 (omega arith), drop-cons b 1 0 (omega arith), 
 pub marked : (b : List ℕ) (s : List ℕ) (n : ℕ) → 6 ≤ length b → isMarked b ≡ true → n ≡ getD b 5 0 → s ≡ drop 6 b → b ≡ 0x52 ∷ 0x43 ∷ 0x48 ∷ 0 ∷ 1 ∷ n ∷ s
 unfolding isMarked
 marked b s n l m p q =
-    let (_, m₀) = pick-not (ltb (length b) 5) true false _ never m in
-    let (e₀, m₁) = pick-is (eqb (getD b 0 0) 0x52) true _ false never m₀ in
-    let (e₁, m₂) = pick-is (eqb (getD b 1 0) 0x43) true _ false never m₁ in
-    let (e₂, m₃) = pick-is (eqb (getD b 2 0) 0x48) true _ false never m₂ in
-    let (e₃, e₄) = pick-is (eqb (getD b 3 0) 0) true _ false never m₃ in
+    let (_, m₀) = pick-not (ltb (length b) 5) true false _ false≢true m in
+    let (e₀, m₁) = pick-is (eqb (getD b 0 0) 0x52) true _ false false≢true m₀ in
+    let (e₁, m₂) = pick-is (eqb (getD b 1 0) 0x43) true _ false false≢true m₁ in
+    let (e₂, m₃) = pick-is (eqb (getD b 2 0) 0x48) true _ false false≢true m₂ in
+    let (e₃, e₄) = pick-is (eqb (getD b 3 0) 0) true _ false false≢true m₃ in
     cc (head-of b l, eqb-true (getD b 0 0) 0x52 e₀, eqb-true (getD b 1 0) 0x43 e₁, eqb-true (getD b 2 0) 0x48 e₂, eqb-true (getD b 3 0) 0 e₃, eqb-true (getD b 4 0) 1 e₄)
-  where
-    never : false ≡ true → ⊥
-    never e = let z : _≡_ {A = ℕ} 0 1 = cc in omega arith
 
 -- b is the writing of 1 to 8 certificates, n of them, of at most 65,536 octets
 pub record Framed (b : List ℕ) (n : ℕ) : Type 0 where
@@ -178,33 +169,18 @@ pub record Framed (b : List ℕ) (n : ℕ) : Type 0 where
   pub few : length certificates ≤ mostCertificates
   pub fits : length (bundleOf certificates) ≤ mostOctets
 
--- a refusal is no number of certificates
-no-refusal : {r : Refusal} {n : ℕ} → Refused r ≡ Certificates n → ⊥
-no-refusal {r} {n} e = let z : _≡_ {A = ℕ} 0 1 = cc in omega arith
-
 -- Octets that are accepted as framed are the writing of so many certificates.
 pub framing-exact : (b : List ℕ) (n : ℕ) → Octets b → frameOf b ≡ Certificates n → Framed b n
-unfolding frameOf bundleOf
+unfolding bundleOf
 framing-exact b n o h =
-    let r = Certificates n in
-    let (t₀, h₀) = pick-not (ltb (length b) leastOctets) r (Refused refusal.Framing) _ no-refusal h in
-    let (t₁, h₁) = pick-not (ltb mostOctets (length b)) r (Refused refusal.Framing) _ no-refusal h₀ in
-    let (t₂, h₂) = pick-is (isMarked b) r _ (Refused refusal.Mark) no-refusal h₁ in
-    let (t₃, h₃) = pick-not (eqb (getD b 5 0) 0) r (Refused refusal.CertificateCount) _ no-refusal h₂ in
-    let (t₄, h₄) = pick-not (ltb mostCertificates (getD b 5 0)) r (Refused refusal.CertificateCount) _ no-refusal h₃ in
-    let (t₅, h₅) = pick-is (isValues (2 * getD b 5 0) (drop 6 b)) r (Certificates (getD b 5 0)) (Refused refusal.Framing) no-refusal h₄ in
-    let c = certificates-written (getD b 5 0) (drop 6 b) (octets-after 6 b o) t₅ in
-    let least = ltb-false (length b) leastOctets t₀ in
-    let most = ltb-false mostOctets (length b) t₁ in
-    let none = eqb-false (getD b 5 0) 0 t₃ in
-    let few = ltb-false mostCertificates (getD b 5 0) t₄ in
-    let same : getD b 5 0 ≡ n = cc in
-    let w = marked b (certificatesOctets (c .certificates)) (length (c .certificates)) least t₂ (sym (c .count)) (sym (c .written)) in
+    let f = bundled b n h in
+    let c = certificates-written n (drop 6 b) (octets-drop 6 b o) (f .values) in
+    let w = marked b (certificatesOctets (c .certificates)) (length (c .certificates)) (f .least) (f .marked) (sym (c .count) ∙ f .count) (sym (c .written)) in
     record {
       certificates = c .certificates;
       written = w;
-      count = sym same ∙ c .count;
-      some = omega (arith, c .count);
-      few = omega (arith, c .count);
-      fits = omega (arith, ap length w);
+      count = c .count;
+      some = omega (arith, c .count, f .some);
+      few = omega (arith, c .count, f .few);
+      fits = omega (arith, ap length w, f .most);
     }

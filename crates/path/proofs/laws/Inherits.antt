@@ -15,9 +15,10 @@ use Rattle.number.specs.Tests.{pick}
 use Rattle.table.specs.Rows.{Row}
 use Rattle.table.specs.Tables.{Tidy, Each}
 use Rattle.table.specs.Holdings.{Holds}
-use Rattle.table.proofs.From.{Upto, earlier-space, same-space, on, From, no-row, a-list, an-inherit, tidy-from, from-tidy}
+use Rattle.table.proofs.laws.Only.{none-held}
+use Rattle.table.proofs.From.{Upto, earlier-space, same-space, on, From, no-row, a-list, an-inherit, looser, tidy-from, from-tidy}
 use Rattle.path.specs.Inherit.{Keeps, listed, inherited, later, inSpace, resolved}
-use Rattle.path.proofs.laws.Walks.{AllListed, empty}
+use Rattle.path.proofs.laws.Walks.{AllListed}
 
 -- what a test of a row's space, or of its mark, found
 pub data Tested (x t : ℕ) : Bool → Type 0 where
@@ -41,7 +42,7 @@ module _ {s n : ℕ} (rest : List Row) where
 
   -- what rows hold in a space, those of that space hold
   into : (t : ℕ) → t ≡ s → (rs : List Row) → Holds s n rs → Holds s n (inSpace t rs ++ rest)
-  into t q [] h = absurd (empty h)
+  into t q [] h = absurd (none-held h)
   into t q (r ∷ rs) h = go (tested (r .space) t) h (λ k. into t q rs k)
     where
       go : {b : Bool} → Tested (r .space) t b → Holds s n (r ∷ rs) → (Holds s n rs → Holds s n (inSpace t rs ++ rest)) → Holds s n (pick b (r ∷ inSpace t rs) (inSpace t rs) ++ rest)
@@ -79,7 +80,7 @@ module _ (issuer : List Row) (s n : ℕ) where
       go (is-not e) (later j) f = Holds.there (f j)
 
   holds-keeps : (rows : List Row) → Holds s n (resolved issuer rows) → Keeps issuer s n rows
-  holds-keeps [] h = absurd (empty h)
+  holds-keeps [] h = absurd (none-held h)
   holds-keeps (r ∷ rs) h = go (tested (r .inherit) 1) h (λ k. holds-keeps rs k)
     where
       from-issuer : r .inherit ≡ 1 → ((r .space ≡ s) × Holds s n issuer) ⊎ Holds s n (resolved issuer rs) → (Holds s n (resolved issuer rs) → Keeps issuer s n rs) → Keeps issuer s n (r ∷ rs)
@@ -129,12 +130,6 @@ resolved-lists issuer (r ∷ rs) a (Each.more m ms) = go (tested (r .inherit) 1)
     go (is-not e) (inr z) k = absurd (e z)
 
 -- THEY ARE TIDY
-
--- rows from a place are rows from any earlier one
-looser : {s a t b : ℕ} {rs : List Row} → Upto s a t b → From t b rs → From s a rs
-looser u no-row = no-row
-looser u (a-list e v l f) = a-list e (on u (le-refl _) v) l f
-looser u (an-inherit e l h v f) = an-inherit e l h (on u (le-refl _) v) f
 
 module _ {t : ℕ} {rest : List Row} (z : From (t + 1) 0 rest) where
   -- the issuer's rows of the space, from a place within it

@@ -18,7 +18,7 @@ use Rattle.table.specs.Tables.{Follows, by-space, Tidy, Fitting, Each}
 use Rattle.table.specs.Holdings.{Holds, Inherits}
 use Rattle.table.proofs.laws.Spaces.{IpSpace, AsSpace, kind-ip, kind-as}
 use Rattle.path.specs.Inherit.{Keeps}
-use Rattle.path.specs.Demand.{Extension, absent, carries, Certificate, rowsIn, listing, Held, HasSpace, SpaceOf, Present, Inheriting, rowsAt, Fits, Proper}
+use Rattle.path.specs.Demand.{Extension, absent, carries, Certificate, carriedRows, listing, Held, HasSpace, SpaceOf, Present, Inheriting, rowsAt, Fits, Proper}
 use Rattle.path.proofs.laws.Walks.{AllListed}
 use Rattle.path.proofs.laws.Inherits.{resolved-keeps, tidy-marked, resolved-lists, resolved-tidy}
 use Rattle.path.proofs.laws.Lacking.{resolved-was, resolved-has}
@@ -49,7 +49,7 @@ joined (Tidy.one s) (Each.more f fs) (Tidy.more u n t) (Each.more g gs) = Tidy.m
 joined (Tidy.more s n t) (Each.more f fs) u gs = Tidy.more s n (joined t fs u gs)
 
 -- an extension's rows
-fits-tidy : {kind : ℕ} (x : Extension) → Fits kind x → Tidy (rowsIn x) × Each (Fitting kind) (rowsIn x)
+fits-tidy : {kind : ℕ} (x : Extension) → Fits kind x → Tidy (carriedRows x) × Each (Fitting kind) (carriedRows x)
 fits-tidy absent f = (Tidy.none, Each.none)
 fits-tidy (carries rows) f = (f .tidy, f .fitting)
 

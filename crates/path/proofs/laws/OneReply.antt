@@ -12,7 +12,6 @@ use Rattle.path.proofs.bundles.frame.Reads as frame
 use Rattle.path.proofs.certificates.certificate.Reads as certificate
 use Rattle.path.proofs.inherits.inherit.Reads as inherit
 use Rattle.path.proofs.paths.check.Reads as check
-use Rattle.path.proofs.replies.fault.Reads as fault
 use Rattle.path.proofs.replies.fault_in.Reads as fault-in
 use Rattle.path.proofs.replies.named.Reads as named
 use Rattle.path.proofs.walks.walk.Reads as walk
@@ -40,10 +39,6 @@ inherit-one-reply κs a r r′ s s′ p q = one-reply p q
 -- paths::check
 pub check-one-reply : OneReply {B = paths.Left} check.Post (λ κs r s. (r, now (s .1 .0), now (s .1 .1 .0)))
 check-one-reply κs a r r′ s s′ p q = one-reply p q
-
--- replies::fault
-pub fault-one-reply : OneReply fault.Post (λ κs r s. r)
-fault-one-reply κs a r r′ s s′ p q = one-reply p q
 
 -- replies::fault_in
 pub fault-in-one-reply : OneReply fault-in.Post (λ κs r s. r)

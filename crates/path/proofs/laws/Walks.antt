@@ -4,7 +4,7 @@
 --     complete     whatever own holds, the issuer holds: covered
 --     pairs-few    the pairs are at most the two row counts added
 use mathlib.Core.Path.{_≡_, refl}
-use mathlib.Core.List.{List, [], _∷_}
+use mathlib.Core.List.{List, _∷_}
 use Prim.Native.Nat.{ℕ, _+_, _≤_}
 use native.Mathlib.Nat.{le-refl}
 use native.Mathlib.Omega.{arith}
@@ -12,6 +12,7 @@ use lib.ListN.{length}
 use Rattle.table.specs.Rows.{Row}
 use Rattle.table.specs.Tables.{Tidy, Each}
 use Rattle.table.specs.Holdings.{Has, Holds}
+use Rattle.table.proofs.laws.Only.{none-held}
 use Rattle.table.proofs.From.{Before, same-space, earlier-space, on, back, From, a-list, an-inherit, tidy-from, from, start}
 use Rattle.path.specs.Walk.{Result, covered, missing, walk}
 use Rattle.path.proofs.laws.Steps.{Steps, done, used-up, inside, skip, ahead, beyond, steps}
@@ -32,10 +33,6 @@ pub record Smallest (own issuer : List Row) (s n : ℕ) : Type 0 where
 
 -- BY CASES ON THE STEPS
 
--- nothing is held by no rows
-pub empty : {s n : ℕ} → Holds s n [] → ⊥
-empty h = elim h [ ]
-
 -- what the first row has is held
 head : {s n : ℕ} {r : Row} {rs : List Row} → Has r s n → Holds s n (r ∷ rs)
 head h = Holds.here h
@@ -51,7 +48,7 @@ few (beyond b) = omega arith
 
 -- covered
 contained : {own issuer : List Row} {k : ℕ} → Steps own issuer covered k → AllListed issuer → Contained own issuer
-contained done a s n h = absurd (empty h)
+contained done a s n h = absurd (none-held h)
 contained (inside w k) (Each.more e a) s n (Holds.here h) = head (omega arith)
 contained (inside w k) a s n (Holds.there h) = contained k a s n h
 contained (skip b k) (Each.more e a) s n h = Holds.there (contained k a s n h)
@@ -77,7 +74,7 @@ held (beyond b) l t = let f = first l t in head (omega arith)
 
 -- not held by the issuer,
 free : {own issuer : List Row} {s n k s′ a s″ b : ℕ} → Steps own issuer (missing s n) k → AllListed own → From s′ a own → AllListed issuer → From s″ b issuer → Holds s n issuer → ⊥
-free used-up l t l′ t′ h = empty h
+free used-up l t l′ t′ h = none-held h
 free (inside w k) l t l′ t′ h = let f = first l t in free k (f .others) (f .after) l′ t′ h
 free (skip b k) l t l′ t′ (Holds.here h) = back b (on (from (start t) (held k l t)) (h .below) (same-space (omega arith) (le-refl _)))
 free (skip b k) l t l′ t′ (Holds.there h) = let f = first l′ t′ in free k l t (f .others) (f .after) h

@@ -1,12 +1,22 @@
 -- One reply: two replies that a function's promise allows are equal, and so is what they leave in a lent buffer (`Rattle.number.proofs.laws.OneReply`). Theorems. Assumes nothing.
 use denote.Ref.{now}
 use Rattle.number.proofs.laws.OneReply.{OneReply, one-reply}
+use Rattle.table.proofs.rows.fewer.Reads as fewer
+use Rattle.table.proofs.rows.count.Reads as count
 use Rattle.table.proofs.rows.get.Reads as get
 use Rattle.table.proofs.rows.put.Reads as put
 use Rattle.table.proofs.rows.clear.Reads as clear
 use Rattle.table.proofs.spaces.kind.Reads as kind
 use Rattle.table.proofs.spaces.width.Reads as width
 use Rattle.table.proofs.tables.is_table.Reads as is-table
+
+-- rows::fewer
+pub fewer-one-reply : OneReply fewer.Post (λ κs r s. r)
+fewer-one-reply κs a r r′ s s′ p q = one-reply p q
+
+-- rows::count
+pub count-one-reply : OneReply count.Post (λ κs r s. r)
+count-one-reply κs a r r′ s s′ p q = one-reply p q
 
 -- rows::get
 pub get-one-reply : OneReply get.Post (λ κs r s. r)

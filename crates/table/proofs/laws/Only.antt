@@ -16,12 +16,8 @@ record Within (a b : List Row) : Type 0 where
   keeps : (s n : ℕ) → Holds s n a → Holds s n b
   shares : (s : ℕ) → Inherits s a → Inherits s b
 
--- what the first row has, the rows hold
-first : {s n : ℕ} {r : Row} {rs : List Row} → Has r s n → Holds s n (r ∷ rs)
-first h = Holds.here h
-
 -- without rows nothing is held, and nothing inherited
-none-held : {s n : ℕ} → Holds s n [] → ⊥
+pub none-held : {s n : ℕ} → Holds s n [] → ⊥
 none-held h = elim h [ ]
 
 none-inherited : {s : ℕ} → Inherits s [] → ⊥
@@ -29,12 +25,12 @@ none-inherited h = elim h [ ]
 
 -- rows within no rows are none
 empty : {s a : ℕ} {x : Row} {xs : List Row} → From s a (x ∷ xs) → Within (x ∷ xs) [] → ⊥
-empty (a-list {r = x} e u l f) w = none-held (w .keeps (x .space) (x .low) (first (record { listed = e; same = refl; above = le-refl _; below = l })))
+empty (a-list {r = x} e u l f) w = none-held (w .keeps (x .space) (x .low) (Holds.here (record { listed = e; same = refl; above = le-refl _; below = l })))
 empty (an-inherit {r = x} e l h u f) w = none-inherited (w .shares (x .space) (Inherits.here e refl))
 
 -- the other's first row is not after this one's
 lead : {s a s′ a′ : ℕ} {x y : Row} {xs ys : List Row} → From s a (x ∷ xs) → From s′ a′ (y ∷ ys) → Within (x ∷ xs) (y ∷ ys) → Upto (y .space) (y .low) (x .space) (x .low)
-lead (a-list {r = x} e u l f) g w = from (start g) (w .keeps (x .space) (x .low) (first (record { listed = e; same = refl; above = le-refl _; below = l })))
+lead (a-list {r = x} e u l f) g w = from (start g) (w .keeps (x .space) (x .low) (Holds.here (record { listed = e; same = refl; above = le-refl _; below = l })))
 lead (an-inherit {r = x} e l h u f) g w = rw l (from-inherit (start g) (w .shares (x .space) (Inherits.here e refl)))
 
 -- rows with equal fields
@@ -70,7 +66,7 @@ module _ (x y : Row) (xs ys : List Row) (same : x .space ≡ y .space) where
       held (Holds.there h) = beyond (from f h)
 
       go : (x .high < y .high) ⊎ (y .high ≤ x .high) → y .high ≤ x .high
-      go (inl p) = absurd (held (w .keeps (y .space) (x .high + 1) (first (record { listed = i; same = refl; above = omega arith; below = omega arith }))))
+      go (inl p) = absurd (held (w .keeps (y .space) (x .high + 1) (Holds.here (record { listed = i; same = refl; above = omega arith; below = omega arith }))))
       go (inr p) = p
 
   -- the rows after x are within those after y, where both list to the same high

@@ -9,25 +9,28 @@
 --     withRow-swap               two rows are written in either order
 --     withRows-append, withRows-snoc, length-withRows, withRows-later, withRows-swap    the same of rows one after another
 --     withRow-over, withRows-over    what is written over is gone
+--     withRow-same, withRows-same    a run's own rows, written where they are, change nothing
 --     rows-kept, rows-written    the rows before those that are written, and those that are
 --     length-cleared, cleared-zero, cleared-later
 --     cleared-twice, cleared-rows    what is cleared does not matter
 use mathlib.Core.Path.{_≡_, refl, sym, ap, ap₂, _∙_}
 use mathlib.Core.List.{List, [], _∷_, _++_, append-nil, append-assoc}
 use mathlib.Core.Logic.{_⊎_, inl, inr}
-use Prim.Native.Nat.{ℕ, zero, suc, min, _+_, _-_, _*_, _≤_, _<_}
+use Prim.Native.Nat.{ℕ, zero, suc, min, _+_, _-_, _*_, _^_, _≤_, _<_}
 use native.Mathlib.Nat.{add-zero, zero-add, suc-add}
 use native.Mathlib.Numerals.{add-one}
 use native.Mathlib.Omega.{arith}
-use lib.ListN.{length, getD, take, drop, replicate, length-append, length-take, length-drop, length-replicate, getD-replicate, List·getD-append, List·getD-eq-default}
+use lib.ListN.{length, getD, take, drop, replicate, take-append-drop, length-append, length-take, length-drop, length-replicate, getD-replicate, List·getD-append, List·getD-eq-default}
 use lib.Dec.{ltb}
+use lib.Pow.{high, low}
 use lib.Seq.{ext-getD, length-take-le, drop-drop, drop-at, drop-append-add, getD-take, getD-drop, getD-append-add}
 use borrow.Author.Tests.{lt-ltb, le-ltb}
 use Rattle.number.specs.Tests.{pick}
-use Rattle.number.proofs.Picks.{below}
+use Rattle.number.proofs.Picks.{below, pick-yes}
 use Rattle.table.specs.Sizes.{rowNumbers, maxRows, tableNumbers}
 use Rattle.table.specs.Rows.{Row, nothing, numbers, front, room, rowAt, withRow, withRows, rowsOf, cleared}
 use Rattle.table.proofs.Columns.{row-at, front-numbers, front-alike}
+use Rattle.table.proofs.Listing.{rows-more}
 
 -- past the first of two lists
 past : (xs ys : List ℕ) (m i : ℕ) → length xs ≡ m → m ≤ i → getD (xs ++ ys) i 0 ≡ getD ys (i - m) 0
@@ -346,6 +349,41 @@ module _ (n : ℕ) (t : List ℕ) where
           let d : n + (k - n) ≡ k = omega arith in
           rw q (past (replicate n 0) (drop n t) n k (length-replicate n 0) h ∙ getD-drop n t (k - n) 0 ∙ ap (λ (i : ℕ). getD t i 0) d)
       go (inr a) = at-end k a ∙ sym (List·getD-eq-default t 0 a)
+
+-- A RUN'S OWN ROWS
+
+-- the numbers of the row that a run begins with are its first ones
+front-same : (d : List ℕ) → rowNumbers ≤ length d → ((i : ℕ) → getD d i 0 < 2 ^ 64) → numbers (front d) ≡ take rowNumbers d
+front-same (a ∷ b ∷ c ∷ e ∷ f ∷ g ∷ d) h l = rw (high c 64 (l 3), low c 64 (l 3), high f 64 (l 5), low f 64 (l 5)) refl
+front-same (a ∷ b ∷ c ∷ e ∷ f ∷ []) h l = absurd (omega arith)
+front-same (a ∷ b ∷ c ∷ e ∷ []) h l = absurd (omega arith)
+front-same (a ∷ b ∷ c ∷ []) h l = absurd (omega arith)
+front-same (a ∷ b ∷ []) h l = absurd (omega arith)
+front-same (a ∷ []) h l = absurd (omega arith)
+front-same [] h l = absurd (omega arith)
+
+-- a row that is written where it is
+pub withRow-same : (t : List ℕ) (n : ℕ) → n < room t → ((i : ℕ) → getD t i 0 < 2 ^ 64) → withRow t n (rowAt t n) ≡ t
+unfolding withRow
+withRow-same t n h l =
+    let d = drop (rowNumbers * n) t in
+    let g : (i : ℕ) → getD d i 0 < 2 ^ 64 = (λ i. rw getD-drop (l (rowNumbers * n + i))) in
+    let e : numbers (front d) ≡ take rowNumbers d = front-same d (omega (arith, length-drop (rowNumbers * n) t)) g in
+    let u = take (rowNumbers * n) t in
+    let v = drop (rowNumbers * n + rowNumbers) t in
+    let a : numbers (front d) ++ v ≡ d = ap₂ (λ (x y : List ℕ). x ++ y) e (sym (drop-drop rowNumbers (rowNumbers * n) t)) ∙ take-append-drop rowNumbers d in
+    let q : u ++ numbers (rowAt t n) ++ v ≡ t = ap (λ (r : Row). u ++ numbers r ++ v) (row-at t n h) ∙ append-assoc u (numbers (front d)) v ∙ ap (λ (x : List ℕ). u ++ x) a ∙ take-append-drop (rowNumbers * n) t in
+    sym (pick-yes (ltb n (room t)) t (u ++ numbers (rowAt t n) ++ v) t (lt-ltb n (room t) h) (sym q))
+
+-- and rows
+pub withRows-same : (m n : ℕ) (t : List ℕ) → n + m ≤ room t → ((i : ℕ) → getD t i 0 < 2 ^ 64) → withRows t n (rowsOf m (drop (rowNumbers * n) t)) ≡ t
+unfolding withRows
+withRows-same zero n t h l = unfold rowsOf in refl
+withRows-same (suc m) n t h l =
+    let rs = rowsOf m (drop (rowNumbers * (n + 1)) t) in
+    ap (λ (xs : List Row). withRows t n xs) (rows-more t n m (omega arith))
+    ∙ ap (λ (u : List ℕ). withRows u (n + 1) rs) (withRow-same t n (omega arith) l)
+    ∙ withRows-same m (n + 1) t (omega arith) l
 
 -- what was there does not matter: numbers that are cleared already,
 pub cleared-twice : (n : ℕ) (t : List ℕ) → cleared n (cleared n t) ≡ cleared n t

@@ -28,10 +28,6 @@ module _ (first last s : ℕ) where
   unfolding between
   true-between p q = rw (le-leb first s p, le-leb s last q)
 
-  before-between : s < first → between first last s ≡ false
-  unfolding between
-  before-between p = rw (lt-leb first s p)
-
   after-between : first ≤ s → last < s → between first last s ≡ false
   unfolding between
   after-between p q = rw (le-leb first s p, lt-leb s last q)

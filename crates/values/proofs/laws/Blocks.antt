@@ -23,7 +23,7 @@ use Rattle.der.specs.Tags.{OCTET-STRING, SEQUENCE}
 use Rattle.der.specs.Head.{element}
 use Rattle.der.specs.Strings.{isSized}
 use Rattle.der.specs.Walk.{all, Run, end, then}
-use Rattle.der.specs.Parts.{Contents, is, isnt}
+use Rattle.der.specs.Parts.{is, isnt}
 use Rattle.der.proofs.laws.Heads.{element-longer}
 use Rattle.der.proofs.laws.Walks.{Laws}
 use Rattle.der.proofs.laws.Parts.{Inner, Outer, Sieve, Admits, no-is, tagged-laws, two-laws, only-laws, sifted-laws, admitted-laws, list-laws, outer-as}
@@ -191,9 +191,9 @@ blocks-laws = only-laws (λ j. at j refusal.OctetsLeft) (tagged-laws (at 0) SEQU
 -- HOW LONG IT IS
 
 -- an OCTET STRING of at most 3 octets
-space-size : (a : ℕ) → length (spaceOctets a) ≤ 3
+pub space-few : (a : ℕ) → length (spaceOctets a) ≤ 3
 unfolding spaceOctets
-space-size a = go (eqb (a % 1024) 0)
+space-few a = go (eqb (a % 1024) 0)
   where
     go : (t : Bool) → length (0 ∷ a / 1024 ∷ pick t [] ((a % 1024 - 1) ∷ [])) ≤ 3
     go true = omega arith
@@ -205,7 +205,7 @@ unfolding familyOctets
 families-size least [] h = omega arith
 families-size least (f ∷ fs) h =
     let (a, b) = choice-size (space.Addresses (f .0)) (f .0) (f .1) (h .2) in
-    let s = space-size (f .0) in
+    let s = space-few (f .0) in
     let e = short OCTET-STRING (spaceOctets (f .0)) (omega arith) in
     let l = length-append (element OCTET-STRING (spaceOctets (f .0))) (choiceOctets (space.Addresses (f .0)) (f .1)) in
     let k = element-any SEQUENCE (element OCTET-STRING (spaceOctets (f .0)) ++ choiceOctets (space.Addresses (f .0)) (f .1)) in

@@ -17,11 +17,11 @@ use Rattle.number.specs.declared.refusal.Refusal.the-variants as refusal
 use Rattle.number.proofs.Picks.{pick-not, pick-is}
 use Rattle.table.specs.Sizes.{maxRows}
 use Rattle.der.specs.Tags.{NULL, SEQUENCE}
-use Rattle.der.specs.Head.{element, headSize}
+use Rattle.der.specs.Head.{element}
 use Rattle.der.specs.Strings.{isNull}
 use Rattle.der.specs.Walk.{all, Run, end, then}
 use Rattle.der.specs.Parts.{Contents, is, isnt, part, filled}
-use Rattle.der.proofs.laws.Heads.{Sized, element-size, tag-first}
+use Rattle.der.proofs.laws.Heads.{head-few, Sized, element-size, tag-first}
 use Rattle.der.proofs.laws.Parts.{Inner, Outer, Admits, no-is, tagged-laws, map-was, list-laws}
 use Rattle.values.specs.Faults.{at}
 use Rattle.values.specs.Spaces.{spaceNumber}
@@ -101,10 +101,10 @@ module _ {X E : Type 0} (none : E) where
     wrote = λ c xs b h. let (e, l) = filled-was (inner c) xs h in let (q, o) = laws .wrote c xs b e in (q, (l, o));
   }
 
--- how many rows are listed
-pub length-listed : (a : ℕ) (rs : List (ℕ × ℕ)) → length (listedRows a rs) ≡ length rs
-length-listed a [] = refl
-length-listed a (r ∷ rs) = rw (length-listed a rs)
+-- as many rows as elements
+pub listed-length : (a : ℕ) (rs : List (ℕ × ℕ)) → length (listedRows a rs) ≡ length rs
+listed-length a [] = refl
+listed-length a (r ∷ rs) = ap suc (listed-length a rs)
 
 -- what may be chosen in the list a, after n rows
 abbrev pub Chosen : Space → ℕ → Choice → Type 0
@@ -136,8 +136,8 @@ module _ (a : Space) (n : ℕ) where
   -- those of a list, with the places taken out
   list-as : (rs : List (ℕ × ℕ)) → ((0 < length rs) × ((σ : Place) × Run (Good a) (0, 0, n) rs σ)) ↔ Chosen a n (listed rs)
   list-as rs = (
-    λ h. let (p, q) = rows-less a (h .1 .1) in ((h .0, p), omega (arith, q (rows-room a (h .1 .1) (h .0)), length-listed (spaceNumber a) rs)),
-    λ h. (h .0 .0, rows-more a rs 0 0 n (h .0 .1) (omega (arith, length-listed (spaceNumber a) rs))),
+    λ h. let (p, q) = rows-less a (h .1 .1) in ((h .0, p), omega (arith, q (rows-room a (h .1 .1) (h .0)), listed-length (spaceNumber a) rs)),
+    λ h. (h .0 .0, rows-more a rs 0 0 n (h .0 .1) (omega (arith, listed-length (spaceNumber a) rs))),
   )
 
   -- in its element, and some
@@ -164,13 +164,7 @@ module _ (a : Space) (n : ℕ) where
 
 -- an element is at most 4 octets longer than its contents
 pub element-any : (t : ℕ) (c : List ℕ) → length (element t c) ≤ length c + 4
-unfolding headSize
-element-any t c = rw (element-size t c) (go (ltb (length c) 128) (ltb (length c) 256))
-  where
-    go : (p q : Bool) → pick p 2 (pick q 3 4) + length c ≤ length c + 4
-    go true q = omega arith
-    go false true = omega arith
-    go false false = omega arith
+element-any t c = omega (arith, element-size t c, head-few (length c))
 
 -- 40 octets for each row
 rows-size : (a : Space) (least : ℕ) (rs : List (ℕ × ℕ)) → Rising (bitsIn a) least rs → length (all (elementOctets a) rs) ≤ 40 * length rs
@@ -180,4 +174,4 @@ rows-size a least (r ∷ rs) h = omega (arith, row-size a r (h .0), rows-size a 
 -- and 4 more
 pub choice-size : (a : Space) (s : ℕ) (c : Choice) → Lists (bitsIn a) c → (length (choiceOctets a c) ≤ 4 + 40 * length (choiceRows s c)) × (1 ≤ length (choiceRows s c))
 choice-size a s inherit o = omega (arith, element-any NULL [])
-choice-size a s (listed rs) o = let l = o .0 in omega (arith, element-any SEQUENCE (all (elementOctets a) rs), rows-size a 0 rs (o .1), length-listed s rs)
+choice-size a s (listed rs) o = let l = o .0 in omega (arith, element-any SEQUENCE (all (elementOctets a) rs), rows-size a 0 rs (o .1), listed-length s rs)

@@ -2,11 +2,11 @@
 --     address-laws     an address prefix or range, at any width of whole octets
 --     id-laws      an AS number or routing domain identifier, or a range of them
 --     element-laws, step-laws      an element of any list, alone and in its list
---     element-some, element-size       how many octets it takes
+--     element-some, element-size       how many octets it takes.       form-size       a prefix or range by its bits.       number-size, pair-size      an INTEGER, a range of two
 use mathlib.Core.Path.{_≡_, refl, ap, _∙_}
 use mathlib.Core.List.{List, _++_}
 use mathlib.Core.Bool.{Bool, true, false}
-use Prim.Native.Nat.{ℕ, _+_, _%_, _^_, _≤_, _<_}
+use Prim.Native.Nat.{ℕ, _+_, _%_, _≤_, _<_}
 use native.Mathlib.Omega.{arith}
 use lib.ListN.{length, getD, length-append}
 use lib.Dec.{ltb, eqb}
@@ -14,23 +14,22 @@ use borrow.Author.Tests.{lt-ltb, eq-eqb, ne-eqb, ltb-true, eqb-true, eqb-false}
 use Rattle.number.specs.Tests.{pick}
 use Rattle.number.specs.Halves.{bits}
 use Rattle.number.specs.Octets.{Octets}
-use Rattle.number.specs.declared.halves.Width.{Width}
-use Rattle.number.specs.declared.halves.Width.the-variants.{Bits32, Bits128}
 use Rattle.number.specs.declared.refusal.Refusal.the-variants as refusal
 use Rattle.number.proofs.Picks.{pick-is}
+use Rattle.number.proofs.Sixteen.{width-octets}
 use Rattle.table.specs.Spaces.{widthOf}
 use Rattle.der.specs.Tags.{INTEGER, BIT-STRING, SEQUENCE}
-use Rattle.der.specs.Head.{element, headSize}
+use Rattle.der.specs.Head.{element}
 use Rattle.der.specs.Bits.{Bits, begun, bad, readBits, bitsOf, bitsSize}
-use Rattle.der.specs.Integer.{integerOf, integerSize, integerOctets}
+use Rattle.der.specs.Integer.{integerOf, integerOctets}
 use Rattle.der.specs.declared.integers.Integer as code
 use Rattle.der.specs.declared.integers.Integer.the-variants as integer
-use Rattle.der.specs.Parts.{Contents, is, isnt, Part, part, nopart, closed, sifted}
-use Rattle.der.proofs.laws.Heads.{Sized, tag-first, element-longer, element-size as whole-size}
+use Rattle.der.specs.Parts.{Contents, is, isnt, Part, part, nopart, sifted}
+use Rattle.der.proofs.laws.Heads.{Sized, head-two, tag-first, element-longer, element-size as whole-size}
 use Rattle.der.proofs.laws.Bits.{Begins, bits-read, bits-of, bits-size}
-use Rattle.der.proofs.laws.Integers.{integer-read, read-integer, integer-size}
+use Rattle.der.proofs.laws.Integers.{integer-read, read-integer, integer-size, integer-most}
 use Rattle.der.proofs.laws.Walks.{Laws}
-use Rattle.der.proofs.laws.Parts.{Inner, Outer, Admits, no-is, no-part, tagged-laws, two-laws, only-laws, map-was, admitted-laws}
+use Rattle.der.proofs.laws.Parts.{Inner, Outer, Admits, no-is, no-part, closed-was, tagged-laws, two-laws, only-laws, map-was, admitted-laws}
 use Rattle.values.specs.Faults.{Fault, at}
 use Rattle.values.specs.Forms.{Form, prefix, range, Span, span, none, formOf, spanOf}
 use Rattle.values.specs.Addresses as address
@@ -53,19 +52,10 @@ span-was : (o : Span) (r : ℕ × ℕ) → address.spanned o ≡ is r → o ≡ 
 span-was none r h = absurd (no-is h)
 span-was (span low high) r h = let e : _≡_ {A = ℕ × ℕ} (low, high) r = cc in ap (λ (q : ℕ × ℕ). span (q .0) (q .1)) e
 
--- what was let through, by its contents
-closed-from : {Y : Type 0} (o : Contents Y Fault) (y : Y) (r rest : List ℕ) → closed o r ≡ part y rest → (o ≡ is y) × (r ≡ rest)
-closed-from (is z) y r rest h = (cc, cc)
-closed-from (isnt f) y r rest h = absurd (no-part h)
-
--- and before them
+-- what was let through, by what it was before
 sifted-from : {X Y : Type 0} (f : X → Contents Y Fault) (o : Part X Fault) (y : Y) (rest : List ℕ) → sifted f o ≡ part y rest → (x : X) × (o ≡ part x rest) × (f x ≡ is y)
 sifted-from f (nopart e) y rest h = absurd (no-part h)
-sifted-from f (part x r) y rest h = let (e, q) = closed-from (f x) y r rest h in (x, rw q, e)
-
--- so many bits, and the number that they begin
-abbrev Starts : ℕ → ℕ × ℕ → Type 0
-Starts w b = Begins w (b .0) (b .1)
+sifted-from f (part x r) y rest h = let (e, q) = closed-was (f x) y r rest h in (x, rw q, e)
 
 -- a reader of something that is seen as a form
 module _ {X : Type 0} {dec : List ℕ → Part X Fault} (w : ℕ) (form : X → Form) (laws : Outer dec (λ x. formOctets w (form x)) (λ x. Parts w (form x))) where
@@ -85,19 +75,19 @@ module _ {X : Type 0} {dec : List ℕ → Part X Fault} (w : ℕ) (form : X → 
 
 module _ (w : ℕ) (m : w % 8 ≡ 0) where
   -- the contents of a BIT STRING
-  bits-inner : Inner (λ c. address.bitsContents (readBits w c)) (λ b. bitsOf w (b .0) (b .1)) (Starts w)
+  bits-inner : Inner (λ c. address.bitsContents (readBits w c)) (λ b. bitsOf w (b .0) (b .1)) (λ b. Begins w (b .0) (b .1))
   bits-inner = record {
     reads = λ b o z. rw (bits-read w (b .0) (b .1) m o);
     wrote = λ c b k h. bits-of w (b .0) (b .1) c m k (bits-was (readBits w c) b h);
   }
 
   -- a BIT STRING
-  bits-laws : Outer (address.bitsAt w) (λ b. formOctets w (address.asPrefix b)) (λ b. Parts w (address.asPrefix b))
+  pub bits-laws : Outer (address.bitsAt w) (λ b. formOctets w (address.asPrefix b)) (λ b. Parts w (address.asPrefix b))
   unfolding address.bitsAt
   bits-laws = tagged-laws (at 0) BIT-STRING (λ k. bits-inner)
 
   -- two of them
-  bounds-laws : Outer (address.rangeAt w) (λ r. formOctets w (address.asRange r)) (λ r. Parts w (address.asRange r))
+  pub bounds-laws : Outer (address.rangeAt w) (λ r. formOctets w (address.asRange r)) (λ r. Parts w (address.asRange r))
   unfolding address.rangeAt address.boundsOf
   bounds-laws = tagged-laws (at 0) SEQUENCE (λ k. moved-inner k (only-laws (λ j. at j refusal.OctetsLeft) (two-laws bits-laws (λ j b o. moved-outer j bits-laws))))
 
@@ -138,7 +128,7 @@ abbrev Small : ℕ → Type 0
 Small x = x ≤ 4294967295
 
 -- an INTEGER
-integer-laws : Outer id.integerAt (λ x. element INTEGER (integerOctets x)) Small
+pub integer-laws : Outer id.integerAt (λ x. element INTEGER (integerOctets x)) Small
 unfolding id.integerAt
 integer-laws = tagged-laws (at 0) INTEGER (λ k. record {
   reads = λ x o z. rw (integer-read x o);
@@ -150,7 +140,7 @@ abbrev pairOctets : ℕ × ℕ → List ℕ
 pairOctets r = element SEQUENCE (element INTEGER (integerOctets (r .0)) ++ element INTEGER (integerOctets (r .1)))
 
 -- both ways
-pair-laws : Outer id.pairAt pairOctets (λ r. Small (r .0) × Small (r .1))
+pub pair-laws : Outer id.pairAt pairOctets (λ r. Small (r .0) × Small (r .1))
 unfolding id.pairAt id.pairOf
 pair-laws = tagged-laws (at 0) SEQUENCE (λ k. moved-inner k (only-laws (λ j. at j refusal.OctetsLeft) (two-laws integer-laws (λ j x o. moved-outer j integer-laws))))
 
@@ -192,14 +182,9 @@ id-wrote s r rest b h = go (eqb (getD s 0 0) INTEGER) h
 pub id-laws : Outer id.idAt idOctets (Fits 32)
 id-laws = record { reads = id-reads; wrote = id-wrote }
 
--- an address has whole octets, at most 16
-width-bits : (width : Width) → (bits width % 8 ≡ 0) × (bits width ≤ 128)
-width-bits Bits32 = omega arith
-width-bits Bits128 = omega arith
-
 -- AN ELEMENT OF A LIST, BOTH WAYS
 pub element-laws : (a : Space) → Outer (elementAt a) (elementOctets a) (Fits (bitsIn a))
-element-laws (space.Addresses a) = address-laws (bits (widthOf a)) (width-bits (widthOf a) .0)
+element-laws (space.Addresses a) = address-laws (bits (widthOf a)) (width-octets (widthOf a) .0)
 element-laws space.AsNumbers = id-laws
 element-laws space.RoutingDomains = id-laws
 
@@ -234,8 +219,7 @@ step-laws a = admitted-laws admitRow (λ σ. moved-outer (σ .0) (element-laws a
 
 -- few octets have a head of two
 pub short : (t : ℕ) (c : List ℕ) → length c < 128 → length (element t c) ≡ length c + 2
-unfolding headSize
-short t c h = omega (arith, rw (lt-ltb (length c) 128 h) at (whole-size t c))
+short t c h = omega (arith, whole-size t c, head-two (length c) h)
 
 -- at most 17 octets
 module _ (t : ℕ) where
@@ -257,34 +241,33 @@ unfolding bitsSize
 bits-few w n x h b = omega (arith, b .fits, bits-size w n x)
 
 -- a form of addresses
-form-size : (w : ℕ) (f : Form) → w ≤ 128 → Parts w f → length (formOctets w f) ≤ 40
+pub form-size : (w : ℕ) (f : Form) → w ≤ 128 → Parts w f → length (formOctets w f) ≤ 40
 form-size w (prefix n x) h p = omega (arith, short-one BIT-STRING (bitsOf w n x) (bits-few w n x h p))
 form-size w (range n x m y) h p = short-two BIT-STRING (bitsOf w n x) (bitsOf w m y) (bits-few w n x h (p .0)) (bits-few w m y h (p .1))
 
 -- a number
 integer-few : (x : ℕ) → length (integerOctets x) ≤ 17
-unfolding integerSize
-integer-few x = rw (integer-size x) (go (ltb x (2 ^ 7)) (ltb x (2 ^ 15)) (ltb x (2 ^ 23)) (ltb x (2 ^ 31)))
-  where
-    go : (a b c d : Bool) → pick a 1 (pick b 2 (pick c 3 (pick d 4 5))) ≤ 17
-    go true b c d = omega arith
-    go false true c d = omega arith
-    go false false true d = omega arith
-    go false false false true = omega arith
-    go false false false false = omega arith
+integer-few x = omega (arith, integer-size x, integer-most x)
 
--- one of them, or a range
+-- an INTEGER, and a SEQUENCE of two of them
+pub number-size : (x : ℕ) → length (element INTEGER (integerOctets x)) ≤ 19
+number-size x = short-one INTEGER (integerOctets x) (integer-few x)
+
+pub pair-size : (r : ℕ × ℕ) → length (pairOctets r) ≤ 40
+pair-size r = short-two INTEGER (integerOctets (r .0)) (integerOctets (r .1)) (integer-few (r .0)) (integer-few (r .1))
+
+-- one or the other
 id-size : (r : ℕ × ℕ) → length (idOctets r) ≤ 40
 unfolding idOctets
 id-size r = go (eqb (r .0) (r .1))
   where
     go : (t : Bool) → length (pick t (element INTEGER (integerOctets (r .0))) (pairOctets r)) ≤ 40
-    go true = omega (arith, short-one INTEGER (integerOctets (r .0)) (integer-few (r .0)))
-    go false = short-two INTEGER (integerOctets (r .0)) (integerOctets (r .1)) (integer-few (r .0)) (integer-few (r .1))
+    go true = omega (arith, number-size (r .0))
+    go false = pair-size r
 
 -- AN ELEMENT OF A LIST TAKES AT MOST 40 OCTETS
 pub element-size : (a : Space) (r : ℕ × ℕ) → Fits (bitsIn a) r → length (elementOctets a r) ≤ 40
 unfolding addressOctets
-element-size (space.Addresses a) r o = form-size (bits (widthOf a)) (formOf (bits (widthOf a)) (r .0) (r .1)) (width-bits (widthOf a) .1) (form-parts (bits (widthOf a)) (r .0) (r .1) (o .order) (o .fits))
+element-size (space.Addresses a) r o = form-size (bits (widthOf a)) (formOf (bits (widthOf a)) (r .0) (r .1)) (width-octets (widthOf a) .1) (form-parts (bits (widthOf a)) (r .0) (r .1) (o .order) (o .fits))
 element-size space.AsNumbers r o = id-size r
 element-size space.RoutingDomains r o = id-size r

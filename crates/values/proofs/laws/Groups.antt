@@ -2,11 +2,10 @@
 --     rows-grouped      the rows of the families that rows are: the same rows
 --     grouped-rows      the families of the rows that families have: the same families
 --     rows-valid, valid-rows      rows that a table may have are families that a value may have, and back
---     allowed-grouped             both at once
 use mathlib.Core.Path.{_≡_, refl, sym, ap, _∙_}
 use mathlib.Core.List.{List, [], _∷_, _++_}
 use mathlib.Core.Bool.{Bool, true, false}
-use mathlib.Core.Logic.{_⊎_, inl, inr, _↔_}
+use mathlib.Core.Logic.{_⊎_, inl, inr}
 use Prim.Native.Nat.{ℕ, _+_, _≤_, _<_}
 use native.Mathlib.Nat.{le-refl}
 use native.Mathlib.Omega.{arith}
@@ -16,12 +15,11 @@ use lib.Dec.{eqb}
 use borrow.Author.Tests.{eq-eqb, ne-eqb, eqb-true, eqb-false}
 use Rattle.number.specs.Tests.{pick}
 use Rattle.number.specs.Halves.{bits}
-use Rattle.number.proofs.Picks.{below}
 use Rattle.table.specs.Sizes.{maxRows}
 use Rattle.table.specs.Spaces.{kindOf, widthOf}
 use Rattle.table.specs.Rows.{Row}
 use Rattle.table.specs.Tables.{Sound, lists, inherits, Tidy, Fitting, Each, Allowed}
-use Rattle.table.proofs.From.{Upto, earlier-space, same-space, on, From, no-row, a-list, an-inherit, tidy-from, from-tidy}
+use Rattle.table.proofs.From.{Upto, earlier-space, same-space, on, begins, From, no-row, a-list, an-inherit, looser, tidy-from, from-tidy}
 use Rattle.values.specs.Choices.{Choice, inherit, listed, listedRow, listedRows, choiceRows}
 use Rattle.values.specs.Tables.{blocksRows}
 use Rattle.values.specs.Encode.{joined, before, grouped}
@@ -151,24 +149,10 @@ begins-on {s} {a} {t} {b} (f ∷ fs) u h = go (f .0) (f .1) h
     go q (listed []) h = absurd h
     go q (listed (r ∷ rs)) h = on u (le-refl _) h
 
--- rows may begin earlier
-from-on : {s a t b : ℕ} {rs : List Row} → Upto s a t b → From t b rs → From s a rs
-from-on u no-row = no-row
-from-on u (a-list e v l h) = a-list e (on u (le-refl _) v) l h
-from-on u (an-inherit e l k v h) = an-inherit e l k (on u (le-refl _) v) h
-
 -- the rows of a list, before those of later spaces
 list-from : (w s a : ℕ) (rs : List (ℕ × ℕ)) (t : List Row) → Rising w a rs → From (s + 1) 0 t → From s a (listedRows s rs ++ t)
-list-from w s a [] t h f = from-on (earlier-space (omega arith)) f
+list-from w s a [] t h f = looser (earlier-space (omega arith)) f
 list-from w s a (r ∷ rs) t h f = a-list refl (same-space refl (h .1)) (h .0 .order) (list-from w s (r .1 + 2) rs t (h .2) f)
-
--- a later space begins after this one
-upto-start : (s t : ℕ) → s ≤ t → Upto s 0 t 0
-upto-start s t l = go (below s t)
-  where
-    go : (s < t) ⊎ (t ≤ s) → Upto s 0 t 0
-    go (inl p) = earlier-space p
-    go (inr p) = same-space (omega arith) (omega arith)
 
 -- where there is a row there is a family
 rows-some : (t : List Row) (fs : List (ℕ × Choice)) → blocksRows fs ≡ t → 0 < length t → 0 < length fs
@@ -235,7 +219,7 @@ module _ (kind : ℕ) where
     -- families in order are rows of a table
     ordered-from : (least : ℕ) (fs : List (ℕ × Choice)) → Ordered kind least fs → From least 0 (blocksRows fs)
     ordered-from least [] h = no-row
-    ordered-from least (f ∷ fs) h = from-on (upto-start least (f .0) (h .1)) (go (f .1) (h .2) (ordered-from (f .0 + 1) fs (h .3)))
+    ordered-from least (f ∷ fs) h = looser (begins (h .1)) (go (f .1) (h .2) (ordered-from (f .0 + 1) fs (h .3)))
       where
         go : (c : Choice) → Lists (bits (widthOf (f .0))) c → From (f .0 + 1) 0 (blocksRows fs) → From (f .0) 0 (choiceRows (f .0) c ++ blocksRows fs)
         go inherit o t = an-inherit refl refl refl (same-space refl (le-refl _)) t
@@ -280,10 +264,3 @@ module _ (kind : ℕ) where
       few = omega (arith, v .few);
       some = λ k. ordered-some 0 fs (v .ordered) (v .some k);
     }
-
-    -- so "The table" is a rule on families
-    pub allowed-grouped : (t : List Row) → Allowed kind t ↔ (Each Marked t × Valid kind 0 (grouped t))
-    allowed-grouped t = (
-      λ h. (tidy-marked (h .tidy), rows-valid 0 t h (omega (arith, h .few))),
-      λ h. rw (rows-grouped (h .0)) at (valid-rows 0 (grouped t) (h .1)),
-    )

@@ -39,6 +39,8 @@ use Rattle.values.proofs.ids.as_element.Kinds as of-as-element
 use Rattle.values.proofs.ids.rdi_element.Kinds as of-rdi-element
 use Rattle.values.proofs.addresses.element.Reads as element
 use Rattle.values.proofs.blocks.read.Reads as blocks-read
+use Rattle.values.proofs.briefs.is_brief.Reads as is-brief
+use Rattle.values.proofs.briefs.wide.Reads as wide
 use Rattle.values.proofs.choices.read.Reads as choices-read
 use Rattle.values.proofs.elements.read.Reads as elements-read
 use Rattle.values.proofs.identifiers.read.Reads as identifiers-read
@@ -50,6 +52,7 @@ use Rattle.values.proofs.ids.as_element.Reads as as-element
 use Rattle.values.proofs.ids.rdi_element.Reads as rdi-element
 use Rattle.values.proofs.parts.fault.Reads as fault
 use Rattle.values.proofs.parts.has_octets.Reads as has-octets
+use Rattle.values.proofs.readings.naming.Reads as naming
 use Rattle.values.proofs.readings.step_ip.Reads as step-ip
 use Rattle.values.proofs.readings.step_as.Reads as step-as
 use Rattle.values.proofs.readings.read_ip.Reads as read-ip
@@ -157,6 +160,14 @@ as-element-one-reply κs a r r′ s s′ p q = found-one (now (a .0)) asNumbers 
 pub rdi-element-one-reply : OneReply (Typed (of-rdi-element.r .is .Ok) rdi-element.Post) (λ κs r s. r)
 rdi-element-one-reply κs a r r′ s s′ p q = found-one (now (a .0)) routingDomains r r′ (fit κs r (p .0)) (fit κs r′ (q .0)) (one-reply (p .1 .0) (q .1 .0)) (p .1 .1) (q .1 .1)
 
+-- briefs::is_brief
+pub is-brief-one-reply : OneReply is-brief.Post (λ κs r s. r)
+is-brief-one-reply κs a r r′ s s′ p q = one-reply p q
+
+-- briefs::wide
+pub wide-one-reply : OneReply wide.Post (λ κs r s. r)
+wide-one-reply κs a r r′ s s′ p q = one-reply (p .0) (q .0)
+
 -- parts::has_octets
 pub has-octets-one-reply : OneReply has-octets.Post (λ κs r s. r)
 has-octets-one-reply κs a r r′ s s′ p q = one-reply p q
@@ -164,6 +175,10 @@ has-octets-one-reply κs a r r′ s s′ p q = one-reply p q
 -- parts::fault
 pub fault-one-reply : OneReply {B = List ℕ × (ℕ × ℕ) × List ℕ} fault.Post (λ κs r s. (now r, r .ptr, now (s .1 .1 .0)))
 fault-one-reply κs a r r′ s s′ p q = (λ i. (one-reply (p .0) (q .0) i, one-reply (p .1 .0) (q .1 .0) i, one-reply (p .1 .1) (q .1 .1) i))
+
+-- readings::naming
+pub naming-one-reply : OneReply naming.Post (λ κs r s. r)
+naming-one-reply κs a r r′ s s′ p q = one-reply p q
 
 -- readings::step_ip
 pub step-ip-one-reply : OneReply {B = Left} step-ip.Post (λ κs r s. (r, now (s .1 .0)))

@@ -1,17 +1,15 @@
 -- The starred examples of document 01, each held by the definitions. A theorem. Assumes nothing.
 use mathlib.Core.Path.{_≡_, refl}
-use mathlib.Core.List.{List, map}
+use mathlib.Core.List.{map}
 use Rattle.number.specs.Kept.{run, keptMin, lostMax, keptMax, zeroFilled, oneFilled}
 use Rattle.number.specs.Shape.{free, isPrefix, shapeOf}
 use Rattle.table.specs.Spaces.{between, kindOf, widthOf}
-use Rattle.table.specs.Rows.{Row}
 use Rattle.der.specs.Head.{body, head, lengthOctets, element}
 use Rattle.der.specs.Strings.{isNull, isSized}
 use Rattle.der.specs.Integer.{padded, integerOf}
 use Rattle.der.specs.Bits.{cut, readBits}
 use Rattle.der.specs.Walk.{walk, walkAll, decAll}
-use Rattle.der.specs.Parts.{Contents, tagged, two, only, admitted, listOf}
-use Rattle.values.specs.Faults.{Fault}
+use Rattle.der.specs.Parts.{tagged, two, only, admitted, listOf}
 use Rattle.values.specs.Forms.{ranged}
 use Rattle.values.specs.Addresses.{bitsAt, boundsOf, rangeAt, prefixAt, rangeRowAt, addressAt}
 use Rattle.values.specs.Ids.{integerAt, pairOf, pairAt, numberAt, rangeAt as idRangeAt, idAt}

@@ -1,6 +1,5 @@
 -- What the laws of the readers speak of: numbers that fit a list, and lists with no place in them. Definitions.
-use Prim.Native.Nat.{ℕ, _+_, _^_, _≤_, _<_}
-use mathlib.Core.Path.{_≡_}
+use Prim.Native.Nat.{ℕ, _^_, _≤_, _<_}
 use Rattle.number.specs.Halves.{bits}
 use Rattle.table.specs.Spaces.{widthOf}
 use Rattle.values.specs.declared.elements.Space.{Space}

@@ -1,7 +1,7 @@
 -- `writer::heads_size` meets its contract. Assumes nothing.
 use borrow.Author.Needs.{needs}
 use native.Mathlib.Omega.{arith}
-use Rattle.writer.proofs.Sizing.{head-most}
+use Rattle.der.proofs.laws.Heads.{head-few}
 use Rattle.writer.proofs.Fronts.{family-size, member-size}
 use Rattle.writer.proofs.heads_size.Statement.{statement}
 use Rattle.writer.proofs.heads_size.Tie as tie
@@ -16,7 +16,7 @@ heads-size-spec =
     (tie.spec
     (λ c κs. search needs)  -- space-size-requires
     (λ c κs. search needs)  -- element-size-requires
-    (λ c. omega (arith, head-most (c .before .space-size .result)))  -- add-head-size
+    (λ c. omega (arith, head-few (c .before .space-size .result)))  -- add-head-size
     (λ c κs. search needs)  -- head-size-requires
     (λ c. omega (arith, family c .1))  -- add-result
     family  -- returns

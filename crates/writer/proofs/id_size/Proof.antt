@@ -3,7 +3,8 @@ use borrow.Author.Needs.{needs}
 use native.Mathlib.Omega.{arith}
 use Rattle.der.specs.Tags.{INTEGER}
 use Rattle.der.specs.Integer.{integerOctets}
-use Rattle.writer.proofs.Sizing.{Two, integer-most, integer-few, integer-two, two-few}
+use Rattle.der.proofs.laws.Integers.{integer-most}
+use Rattle.writer.proofs.Sizing.{Two, integer-few, integer-two, two-few}
 use Rattle.writer.proofs.Numbering.{id-one, id-two}
 use Rattle.writer.proofs.id_size.Statement.{statement}
 use Rattle.writer.proofs.id_size.Tie as tie

@@ -20,7 +20,7 @@ use Rattle.table.proofs.laws.Spaces.{space-above-zero}
 use Rattle.der.specs.Tags.{SEQUENCE, NULL}
 use Rattle.der.specs.Head.{headOctets, headSize}
 use Rattle.der.specs.Walk.{all}
-use Rattle.der.proofs.laws.Heads.{head-size, element-size}
+use Rattle.der.proofs.laws.Heads.{head-size, head-few, element-size}
 use Rattle.der.proofs.laws.Writing.{element-is}
 use Rattle.values.specs.Limits.{asNumbers}
 use Rattle.values.specs.Choices.{Choice, inherit, listed}
@@ -28,10 +28,10 @@ use Rattle.values.specs.Encode.{elementOctets, spaceFor, before, joined, rowOct
 use Rattle.values.specs.declared.elements.Space.the-variants as space
 use Rattle.values.proofs.laws.Statements.{bitsIn, Fits}
 use Rattle.values.proofs.laws.Elements as elements
-use Rattle.writer.specs.Writer.{elementSize}
+use Rattle.writer.specs.Writer.{rowMost, headsMost, elementSize}
 use Rattle.writer.specs.Families.{frame, none, openHeads, joins, closing, own, onward, Own}
 use Rattle.writer.specs.declared.families.Open.{Open}
-use Rattle.writer.proofs.laws.Groups.{head-few, head-more, heads-few, heads-more, group-is}
+use Rattle.writer.proofs.laws.Groups.{head-more, heads-few, heads-more, group-is}
 
 abbrev pub Families : Type 0
 Families = List (ℕ × Choice)
@@ -109,14 +109,14 @@ unfolding frame
 frame-size kind a tag n = omega (arith, length-append (groupHeads kind a (elementSize n)) (headOctets tag n), head-size tag n)
 
 -- they are few
-pub frame-few : (kind a tag n : ℕ) → length (frame kind a tag n) ≤ 13
+pub frame-few : (kind a tag n : ℕ) → length (frame kind a tag n) ≤ headsMost
 frame-few kind a tag n = omega (arith, frame-size kind a tag n, heads-few kind a (elementSize n), head-few n)
 
-pub open-few : (kind : ℕ) (o : Open) → length (openHeads kind o) ≤ 13
+pub open-few : (kind : ℕ) (o : Open) → length (openHeads kind o) ≤ headsMost
 unfolding openHeads
 open-few kind o = go (eqb (o .space) 0)
   where
-    go : (b : Bool) → length (pick b [] (frame kind (o .space) SEQUENCE (o .size))) ≤ 13
+    go : (b : Bool) → length (pick b [] (frame kind (o .space) SEQUENCE (o .size))) ≤ headsMost
     go true = omega arith
     go false = frame-few kind (o .space) SEQUENCE (o .size)
 
@@ -217,11 +217,11 @@ module _ (kind : ℕ) (one : kind ≡ mixedKind → ⊥) where
 -- HOW MANY OCTETS
 
 -- a row's own octets
-pub own-few : (kind : ℕ) (r : Row) → Own kind r → length (own kind r) ≤ 40
+pub own-few : (kind : ℕ) (r : Row) → Own kind r → length (own kind r) ≤ rowMost
 unfolding own rowOctets
 own-few kind r o = go (eqb (r .inherit) 1) refl
   where
-    inherited : length (groupOctets kind (r .space, inherit)) ≤ 40
+    inherited : length (groupOctets kind (r .space, inherit)) ≤ rowMost
     inherited = rw (inherit-is kind (r .space)) (omega (arith, frame-few kind (r .space) NULL 0))
 
     -- numbers of the width that the list of the space asks
@@ -231,7 +231,7 @@ own-few kind r o = go (eqb (r .inherit) 1) refl
     lists false true p f = record { order = p; fits = f }
     lists false false p f = record { order = p; fits = f }
 
-    go : (d : Bool) → eqb (r .inherit) 1 ≡ d → length (pick d (groupOctets kind (r .space, inherit)) (rowOctets kind r)) ≤ 40
+    go : (d : Bool) → eqb (r .inherit) 1 ≡ d → length (pick d (groupOctets kind (r .space, inherit)) (rowOctets kind r)) ≤ rowMost
     go true q = inherited
     go false q =
         let l = o .lists (eqb-false (r .inherit) 1 q) in

@@ -1,11 +1,11 @@
 -- A family, or a member: its heads and its choice, and how many octets they are. Theorems. Assumes nothing.
 --     group-is      its heads, then its choice
---     heads-few, head-few      heads are short.       choice-size      a choice by the size of what it lists
+--     heads-few      heads are short.       choice-size      a choice by the size of what it lists
 --     group-more    a longer list has a longer family
 use mathlib.Core.Path.{_≡_, refl, _∙_}
-use mathlib.Core.List.{[], _∷_, _++_, append-assoc}
+use mathlib.Core.List.{_++_, append-assoc}
 use mathlib.Core.Bool.{Bool, true, false}
-use Prim.Native.Nat.{ℕ, _+_, _%_, _/_, _-_, _≤_}
+use Prim.Native.Nat.{ℕ, _+_, _≤_}
 use native.Mathlib.Omega.{arith}
 use lib.ListN.{length, length-append}
 use lib.Dec.{ltb, eqb}
@@ -14,22 +14,14 @@ use Rattle.number.specs.Tests.{pick}
 use Rattle.table.specs.Spaces.{ipKind}
 use Rattle.der.specs.Tags.{OCTET-STRING, SEQUENCE}
 use Rattle.der.specs.Head.{element, headOctets, headSize}
-use Rattle.der.proofs.laws.Heads.{head-size, element-size}
+use Rattle.der.proofs.laws.Heads.{head-size, head-few, element-size}
 use Rattle.der.proofs.laws.Writing.{element-is}
+use Rattle.values.proofs.laws.Blocks.{space-few}
 use Rattle.values.specs.Limits.{ASNUM, RDI, asNumbers}
 use Rattle.values.specs.Choices.{Choice}
 use Rattle.values.specs.Encode.{choiceOctets, spaceOctets, familyOctets, memberOctets, spaceFor, groupOctets, groupHeads}
 use Rattle.values.specs.declared.elements.Space.the-variants as space
-
--- a head of two octets to four
-pub head-few : (n : ℕ) → (2 ≤ headSize n) × (headSize n ≤ 4)
-unfolding headSize
-head-few n = go (ltb n 128) (ltb n 256)
-  where
-    go : (a b : Bool) → (2 ≤ pick a 2 (pick b 3 4)) × (pick a 2 (pick b 3 4) ≤ 4)
-    go true b = omega arith
-    go false true = omega arith
-    go false false = omega arith
+use Rattle.writer.specs.Writer.{groupMost}
 
 -- more octets have no shorter head
 pub head-more : (m n : ℕ) → m ≤ n → headSize m ≤ headSize n
@@ -46,15 +38,6 @@ head-more m n h = go (ltb m 128) refl (ltb m 256) refl (ltb n 128) refl (ltb n 2
     go false e false f false g true i = absurd (omega (arith, ltb-false m 256 f, ltb-true n 256 i))
     go false e false f false g false i = omega arith
 
--- an addressFamily
-space-few : (a : ℕ) → length (spaceOctets a) ≤ 3
-unfolding spaceOctets
-space-few a = go (eqb (a % 1024) 0)
-  where
-    go : (b : Bool) → length (0 ∷ a / 1024 ∷ pick b [] ((a % 1024 - 1) ∷ [])) ≤ 3
-    go true = omega arith
-    go false = omega arith
-
 -- an addressFamily as an element
 first-few : (a : ℕ) → length (element OCTET-STRING (spaceOctets a)) ≤ 5
 unfolding headSize
@@ -62,12 +45,12 @@ first-few a = let h = space-few a in omega (arith, rw (lt-ltb (length (spaceOcte
 
 module _ (kind a : ℕ) where
   -- before a choice stand at most nine octets
-  pub heads-few : (n : ℕ) → length (groupHeads kind a n) ≤ 9
+  pub heads-few : (n : ℕ) → length (groupHeads kind a n) ≤ groupMost
   unfolding groupHeads
   heads-few n = go (eqb kind ipKind)
     where
       go : (b : Bool)
-          → length (pick b (headOctets SEQUENCE (length (element OCTET-STRING (spaceOctets a)) + n) ++ element OCTET-STRING (spaceOctets a)) (headOctets (pick (eqb a asNumbers) ASNUM RDI) n)) ≤ 9
+          → length (pick b (headOctets SEQUENCE (length (element OCTET-STRING (spaceOctets a)) + n) ++ element OCTET-STRING (spaceOctets a)) (headOctets (pick (eqb a asNumbers) ASNUM RDI) n)) ≤ groupMost
       go true =
           let m = length (element OCTET-STRING (spaceOctets a)) + n in
           omega (arith, length-append (headOctets SEQUENCE m) (element OCTET-STRING (spaceOctets a)), first-few a, head-size SEQUENCE m, head-few m)

@@ -1,17 +1,18 @@
--- The writer's reply in this paper's numbers says the reply: no two replies have the same numbers. Theorems. Assumes nothing.
-use mathlib.Core.Path.{_≡_, sym, ap}
-use mathlib.Core.List.{List}
-use Prim.Native.Nat.{ℕ}
-use lib.ListN.{getD}
-use Rattle.number.proofs.laws.Refusals.{never-zero}
-use Rattle.values.proofs.laws.Papers.{refused-apart}
-use Rattle.writer.specs.Writer.{paper}
+-- The writer's answers in this paper's numbers say the answers: no two have the same numbers. Theorems. Assumes nothing.
+use mathlib.Core.Path.{_≡_, refl}
+use lib.ListN.{length, getD}
+use lib.Dec.{eqb}
+use Rattle.number.specs.Tests.{pick}
+use Rattle.number.proofs.laws.Papers.{apart}
+use Rattle.values.proofs.laws.Papers.{replied, replied-back}
+use Rattle.writer.specs.Papers.{paper, formPaper}
+use Rattle.writer.specs.declared.Form.{Form}
+use Rattle.writer.specs.declared.Form.the-variants as form
 use Rattle.writer.specs.declared.Writing.{Writing}
 use Rattle.writer.specs.declared.Writing.the-variants as writing
 
--- a reply is told by its numbers
 pub paper-apart : (x y : Writing) → paper x ≡ paper y → x ≡ y
-paper-apart (writing.Octets n) (writing.Octets m) e = ap (λ (l : List ℕ). writing.Octets (getD l 7 0)) e
-paper-apart (writing.Octets n) (writing.Refused g) e = absurd (never-zero (g .refusal) (sym (ap (λ (l : List ℕ). getD l 0 0) e)))
-paper-apart (writing.Refused f) (writing.Octets m) e = absurd (never-zero (f .refusal) (ap (λ (l : List ℕ). getD l 0 0) e))
-paper-apart (writing.Refused f) (writing.Refused g) e = ap writing.Refused (refused-apart f g e)
+paper-apart = apart paper (replied (λ n k. writing.Octets n) writing.Refused) (elim [ writing.Octets n ↦ refl | writing.Refused f ↦ replied-back (λ n k. writing.Octets n) writing.Refused f ])
+
+pub form-apart : (x y : Form) → formPaper x ≡ formPaper y → x ≡ y
+form-apart = apart formPaper (λ l. pick (eqb (length l) 2) (form.Prefix (getD l 1 0)) (form.Range (getD l 1 0) (getD l 2 0))) (elim [ form.Prefix n ↦ refl | form.Range n m ↦ refl ])

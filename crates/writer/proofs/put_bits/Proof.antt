@@ -1,7 +1,7 @@
 -- `writer::put_bits` meets its contract. Assumes nothing.
 use borrow.Author.Needs.{needs}
 use native.Mathlib.Omega.{arith}
-use Rattle.writer.proofs.Sizing.{head-most}
+use Rattle.der.proofs.laws.Heads.{head-few}
 use Rattle.writer.proofs.Pieces.{bits-put}
 use Rattle.writer.proofs.put_bits.Statement.{statement}
 use Rattle.writer.proofs.put_bits.Tie as tie
@@ -13,7 +13,7 @@ put-bits-spec =
     (λ c κs. search needs)  -- octets-requires
     (λ c κs. search needs)  -- put-head-requires
     (λ c κs. search needs)  -- head-size-requires
-    (λ c. omega (arith, head-most (c .before .before .before .before .before .before .octets .result)))  -- add-put
+    (λ c. omega (arith, head-few (c .before .before .before .before .before .before .octets .result)))  -- add-put
     (λ c κs. search needs)  -- from-halves-requires
     (λ c κs. search needs)  -- put-requires
     (λ c. search needs)  -- same-length

@@ -7,7 +7,7 @@ use lib.ListN.{length}
 use Rattle.der.specs.Tags.{OCTET-STRING}
 use Rattle.der.specs.Head.{element}
 use Rattle.values.specs.Encode.{spaceOctets}
-use Rattle.writer.proofs.Sizing.{head-most}
+use Rattle.der.proofs.laws.Heads.{head-few}
 use Rattle.writer.proofs.Fronts.{family-room, family-put, asnum-put, rdi-put}
 use Rattle.writer.proofs.put_heads.Statement.{statement}
 use Rattle.writer.proofs.put_heads.Tie as tie
@@ -22,7 +22,7 @@ put-heads-spec =
     (tie.spec
     (λ c κs. search needs)  -- space-size-requires
     (λ c κs. search needs)  -- element-size-requires
-    (λ c. omega (arith, head-most (c .before .space-size .result)))  -- add-all
+    (λ c. omega (arith, head-few (c .before .space-size .result)))  -- add-all
     (λ c κs. search needs)  -- put-head-requires
     (λ c κs. search needs)  -- head-size-requires
     (λ c. omega (arith, room c))  -- add-put-space

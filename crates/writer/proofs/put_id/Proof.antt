@@ -5,7 +5,8 @@ use native.Mathlib.Omega.{arith}
 use Rattle.der.specs.Tags.{INTEGER}
 use Rattle.der.specs.Head.{element}
 use Rattle.der.specs.Integer.{integerOctets}
-use Rattle.writer.proofs.Sizing.{Two, integer-most, integer-two}
+use Rattle.der.proofs.laws.Integers.{integer-most}
+use Rattle.writer.proofs.Sizing.{Two, integer-two}
 use Rattle.writer.proofs.Numbering.{id-one, id-two}
 use Rattle.writer.proofs.Pieces.{Rooms, two-rooms, two-put}
 use Rattle.writer.proofs.put_id.Statement.{statement}

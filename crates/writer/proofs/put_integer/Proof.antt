@@ -1,7 +1,7 @@
 -- `writer::put_integer` meets its contract. Assumes nothing.
 use borrow.Author.Needs.{needs}
 use native.Mathlib.Omega.{arith}
-use Rattle.writer.proofs.Sizing.{head-most}
+use Rattle.der.proofs.laws.Heads.{head-few}
 use Rattle.writer.proofs.Pieces.{integer-put}
 use Rattle.writer.proofs.put_integer.Statement.{statement}
 use Rattle.writer.proofs.put_integer.Tie as tie
@@ -13,7 +13,7 @@ put-integer-spec =
     (λ c κs. search needs)  -- octets-requires
     (λ c κs. search needs)  -- put-head-requires
     (λ c κs. search needs)  -- head-size-requires
-    (λ c. omega (arith, head-most (c .before .before .before .before .before .before .octets .result)))  -- add-put
+    (λ c. omega (arith, head-few (c .before .before .before .before .before .before .octets .result)))  -- add-put
     (λ c κs. search needs)  -- put-requires
     (λ c. search needs)  -- same-length
     (λ c. search (integer-put, needs)))  -- returns

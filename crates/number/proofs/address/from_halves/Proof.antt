@@ -7,15 +7,16 @@ use Rattle.number.proofs.address.from_halves.Statement.{statement}
 use Rattle.number.proofs.address.from_halves.Tie as tie
 
 abbrev Inv-loop : tie.InvT-loop
-Inv-loop width n octets₀ k₀ octets k = Stored width (whole n) octets k
+Inv-loop width first octets₀ k₀ octets k = Stored (whole first) octets k
 
 abbrev μ-loop : tie.MeasureT-loop
-μ-loop width n octets₀ k₀ octets k = 16 - k
+μ-loop width first octets₀ k₀ octets k = 16 - k
 
 pub from-halves-spec : {M : Type 1} → statement M
 from-halves-spec =
     tie.close
     (tie.spec Inv-loop μ-loop
+    (λ c κs. search needs)  -- first-bits-requires
     (λ c. search (none-stored, needs))  -- loop-holds
     (λ c. search needs)  -- cast-octet
     (λ c κs. search needs)  -- octet-requires

@@ -1,6 +1,6 @@
 -- `number::shape::free` meets its contract. Assumes nothing.
 use borrow.Author.Needs.{needs}
-use Rattle.number.proofs.Telling.{free-zeros-fewer, free-ones-fewer}
+use Rattle.number.proofs.Telling.{free-is}
 use Rattle.number.proofs.shape.free.Statement.{statement}
 use Rattle.number.proofs.shape.free.Tie as tie
 
@@ -10,5 +10,5 @@ free-spec =
     (tie.spec
     (λ c κs. search needs)  -- zeros-requires
     (λ c κs. search needs)  -- ones-requires
-    (λ c. search (free-zeros-fewer, needs))  -- returns
-    (λ c. search (free-ones-fewer, needs)))  -- returns-2
+    (λ c κs. search needs)  -- least-requires
+    (λ c. search (free-is, needs)))  -- returns

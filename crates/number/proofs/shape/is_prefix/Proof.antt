@@ -11,6 +11,5 @@ is-prefix-spec =
     (λ c κs. search needs)  -- bits-requires
     (λ c κs. search needs)  -- free-requires
     (λ c. search (free-fits, needs))  -- sub-count
-    (λ c κs. search needs)  -- one-filled-requires
-    (λ c κs. search needs)  -- same-requires
+    (λ c κs. search needs)  -- is-filled-requires
     (λ c. search (test-is, needs)))  -- returns

@@ -10,9 +10,9 @@ tell-spec =
     (tie.spec
     (λ c κs. search needs)  -- to-halves-requires
     (λ c κs. search needs)  -- to-halves-requires-2
-    (λ c κs. search needs)  -- is-prefix-requires
     (λ c κs. search needs)  -- bits-requires
     (λ c κs. search needs)  -- free-requires
-    (λ c. search (free-fits, needs))  -- sub
+    (λ c. search (free-fits, needs))  -- sub-count
+    (λ c κs. search needs)  -- is-filled-requires
     (λ c. search (tell-prefix, needs))  -- returns
     (λ c. search (tell-range, needs)))  -- returns-2

@@ -25,4 +25,4 @@ frame-spec =
     (λ c. search needs)  -- mul-is-values
     (λ c κs. search needs)  -- is-values-requires
     (λ c. unfold frameOf in search (values-after, same-count, not-false, via, picks) depth 12 fits 20000)  -- returns-6
-    (λ c. unfold frameOf in search (values-after, same-count, not-false, via, picks) depth 12 fits 20000))  -- returns-7
+    (λ c. unfold frameOf in search (values-after, not-false, via, picks) depth 12 fits 20000))  -- returns-7

@@ -20,9 +20,9 @@ count-all-spec =
     (λ c κs. search needs)  -- get-requires
     (λ c κs. search needs)  -- count-row-requires
     (λ c. search (tally-lacks, needs))  -- returns
-    (λ c. search (tally-fits, needs))  -- add-least
-    (λ c. search needs)  -- add-least-2
-    (λ c κs. search needs)  -- least-requires
+    (λ c. search (tally-fits, needs))  -- add-fewer
+    (λ c. search needs)  -- add-fewer-2
+    (λ c κs. search needs)  -- fewer-requires
     (λ c. search needs)  -- add-k
     (λ c. search needs)  -- loop-less
     (λ c. search (tally-turn, needs))  -- loop-again

@@ -1,7 +1,8 @@
 -- `path::walks::walk` meets its contract. Assumes nothing.
 use Prim.Native.Nat.{_+_, _-_}
 use borrow.Author.Needs.{needs}
-use Rattle.path.specs.Walk.{walk, rowsIn}
+use Rattle.table.specs.Rows.{rowsIn}
+use Rattle.path.specs.Walk.{walk}
 use Rattle.path.proofs.Walking.{Walking, walk-start, walk-end, walk-out, walk-own, walk-issuer, walk-stops}
 use Rattle.path.proofs.walks.walk.Statement.{statement}
 use Rattle.path.proofs.walks.walk.Tie as tie
@@ -35,8 +36,8 @@ pub walk-spec : {M : Type 1} → statement M
 walk-spec =
     tie.close
     (tie.spec Inv-loop μ-loop
-    (λ c κs. search needs)  -- least-requires
-    (λ c κs. search needs)  -- least-requires-2
+    (λ c κs. search needs)  -- count-requires
+    (λ c κs. search needs)  -- count-requires-2
     (λ c. search (walk-start, needs))  -- loop-holds
     (λ c κs. search needs)  -- get-requires
     (λ c κs. search needs)  -- missing-requires

@@ -11,8 +11,8 @@ report-spec =
     (tie.spec
     (λ c. search (report-none, needs))  -- returns
     (λ c. search needs)  -- enum-known-reply
-    (λ c κs. search needs)  -- least-requires
-    (λ c κs. search needs)  -- least-requires-2
+    (λ c κs. search needs)  -- fewer-requires
+    (λ c κs. search needs)  -- count-requires
     (λ c κs. (search (rows-there, needs), search (ok-most, rows-few, needs)))  -- put-ok-requires
     (λ c. search needs)  -- enum-known-reply-2
     (λ c κs. search (no-most, needs))  -- put-no-requires

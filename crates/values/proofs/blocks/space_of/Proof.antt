@@ -20,7 +20,6 @@ space-of-spec =
     (λ c. search (space-low, needs))  -- returns-2
     (λ c. search (space-high, needs))  -- returns-3
     (λ c. search needs)  -- mul-t16
-    (λ c. search needs)  -- add-t17
     (λ c. search (space-plain, needs))  -- returns-4
     (λ c. search needs)  -- mul-t6
     (λ c. search needs)  -- shared-slice-read-wide-3

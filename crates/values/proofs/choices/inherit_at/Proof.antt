@@ -1,7 +1,8 @@
 -- `values::choices::inherit_at` meets its contract. Assumes nothing.
 use borrow.Author.Needs.{needs}
 use borrow.Author.Tests.{not-true, not-false}
-use Rattle.values.proofs.Choosing.{open-order, open-inside, inherit-bad, inherit-contents, inherit-full, inherit-is}
+use Rattle.values.proofs.Joins.{tag-order, tag-inside}
+use Rattle.values.proofs.Choosing.{inherit-bad, inherit-contents, inherit-full, inherit-is}
 use Rattle.values.proofs.choices.inherit_at.Statement.{statement}
 use Rattle.values.proofs.choices.inherit_at.Tie as tie
 
@@ -12,9 +13,9 @@ inherit-at-spec =
     (λ c κs. search needs)  -- open-requires
     (λ c. search needs)  -- enum-known-refusal
     (λ c. search needs)  -- enum-known-k
-    (λ c. search (open-order, needs))  -- sub-null
-    (λ c. search (open-order, needs))  -- part-null-start
-    (λ c. search (open-inside, needs))  -- part-null-end
+    (λ c. search (tag-order, needs))  -- sub-null
+    (λ c. search (tag-order, needs))  -- part-null-start
+    (λ c. search (tag-inside, needs))  -- part-null-end
     (λ c κs. search needs)  -- null-requires
     (λ c. search (inherit-contents, not-true, needs))  -- returns
     (λ c. search (inherit-full, not-false, needs))  -- returns-2

@@ -1,6 +1,7 @@
 -- `values::choices::list_at` meets its contract. Assumes nothing.
 use borrow.Author.Needs.{needs}
-use Rattle.values.proofs.Choosing.{open-order, open-inside, list-bad, list-isnt, list-fits, list-none, list-some}
+use Rattle.values.proofs.Joins.{tag-order, tag-inside}
+use Rattle.values.proofs.Choosing.{list-bad, list-isnt, list-fits, list-none, list-some}
 use Rattle.values.proofs.choices.list_at.Statement.{statement}
 use Rattle.values.proofs.choices.list_at.Tie as tie
 
@@ -11,9 +12,9 @@ list-at-spec =
     (λ c κs. search needs)  -- open-requires
     (λ c. search needs)  -- enum-known-refusal
     (λ c. search needs)  -- enum-known-k
-    (λ c. search (open-order, needs))  -- sub-read
-    (λ c. search (open-order, needs))  -- part-read-start
-    (λ c. search (open-inside, needs))  -- part-read-end
+    (λ c. search (tag-order, needs))  -- sub-read
+    (λ c. search (tag-order, needs))  -- part-read-start
+    (λ c. search (tag-inside, needs))  -- part-read-end
     (λ c κs. search needs)  -- read-requires
     (λ c. search needs)  -- enum-known-refusal-2
     (λ c. search (list-fits, needs))  -- add-t21

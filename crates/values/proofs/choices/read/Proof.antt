@@ -1,7 +1,10 @@
 -- `values::choices::read` meets its contract. Assumes nothing.
 use mathlib.Core.Logic.{⊎-elim}
 use borrow.Author.Needs.{needs}
-use Rattle.values.proofs.Choosing.{choice-null, choice-list, no-null}
+use native.Mathlib.Omega.{arith}
+use Rattle.der.specs.Tags.{NULL}
+use Rattle.values.proofs.Choosing.{choice-null, choice-list}
+use Rattle.values.proofs.Joins.{no-tag}
 use Rattle.values.proofs.choices.read.Statement.{statement}
 use Rattle.values.proofs.choices.read.Tie as tie
 
@@ -18,4 +21,4 @@ read-spec =
     (λ c. search needs)  -- same-length-2
     (λ c.
     let tests = c .before .before .before .before in
-    choice-list _ _ _ _ _ _ (⊎-elim (λ w. w .2 .left) (λ w. no-null (tests .before .before .before .args .s .now) (w .left)) (tests .if1 .came)) (c .before .before .list-at .ensures)))  -- returns-2
+    choice-list _ _ _ _ _ _ (⊎-elim (λ w. w .2 .left) (λ w. no-tag (tests .before .before .before .args .s .now) NULL (omega arith) (w .left)) (tests .if1 .came)) (c .before .before .list-at .ensures)))  -- returns-2

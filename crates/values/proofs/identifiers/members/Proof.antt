@@ -1,7 +1,10 @@
 -- `values::identifiers::members` meets its contract. Assumes nothing.
 use mathlib.Core.Logic.{⊎-elim}
 use borrow.Author.Needs.{needs}
-use Rattle.values.proofs.MemberReads.{members-first, members-last, no-first}
+use native.Mathlib.Omega.{arith}
+use Rattle.values.specs.Limits.{ASNUM}
+use Rattle.values.proofs.MemberReads.{members-first, members-last}
+use Rattle.values.proofs.Joins.{no-tag}
 use Rattle.values.proofs.identifiers.members.Statement.{statement}
 use Rattle.values.proofs.identifiers.members.Tie as tie
 
@@ -17,4 +20,4 @@ members-spec =
     (λ c. search needs)  -- same-length-2
     (λ c.
     let tests = c .before .before .before .before in
-    members-last _ _ _ _ _ (⊎-elim (λ w. w .2 .left) (λ w. no-first (tests .before .before .before .args .s .now) (w .left)) (tests .if1 .came)) (c .before .before .last .ensures)))  -- returns-2
+    members-last _ _ _ _ _ (⊎-elim (λ w. w .2 .left) (λ w. no-tag (tests .before .before .before .args .s .now) ASNUM (omega arith) (w .left)) (tests .if1 .came)) (c .before .before .last .ensures)))  -- returns-2

@@ -3,7 +3,7 @@ use borrow.Author.Needs.{needs}
 use mathlib.Core.Logic.{⊎-elim}
 use Rattle.number.proofs.Picks.{picks}
 use Rattle.values.specs.Ids.{idAt}
-use Rattle.values.proofs.RowReads.{no-tag}
+use Rattle.values.proofs.Joins.{no-tag}
 use Rattle.values.proofs.ids.as_element.Statement.{statement}
 use Rattle.values.proofs.ids.as_element.Tie as tie
 

@@ -9,13 +9,13 @@ pub pair-of-spec : {M : Type 1} → statement M
 pair-of-spec =
     tie.close
     (tie.spec
-    (λ c κs. search needs)  -- integer-at-requires
+    (λ c κs. search needs)  -- any-integer-at-requires
     (λ c. search needs)  -- enum-known-refusal
     (λ c. search needs)  -- enum-known-min
     (λ c. search (integer-inside, needs))  -- sub-rest
     (λ c. search (integer-inside, needs))  -- part-rest-start
     (λ c. search needs)  -- part-rest-end
-    (λ c κs. search needs)  -- integer-at-requires-2
+    (λ c κs. search needs)  -- any-integer-at-requires-2
     (λ c. search needs)  -- enum-known-refusal-2
     (λ c. search (pair-fits, needs))  -- add-t18
     (λ c. search needs)  -- enum-known-max

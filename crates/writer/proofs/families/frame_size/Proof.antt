@@ -1,7 +1,7 @@
 -- `writer::families::frame_size` meets its contract. Assumes nothing.
 use borrow.Author.Needs.{needs}
 use native.Mathlib.Omega.{arith}
-use Rattle.writer.proofs.laws.Groups.{head-few}
+use Rattle.der.proofs.laws.Heads.{head-few}
 use Rattle.writer.proofs.Framing.{size-few, frame-sum, frame-sum-few}
 use Rattle.writer.proofs.families.frame_size.Statement.{statement}
 use Rattle.writer.proofs.families.frame_size.Tie as tie
