@@ -3,15 +3,17 @@ use mathlib.Core.Path.{_≡_, refl, sym, ap, _∙_}
 use mathlib.Core.List.{List, [], _∷_, _++_}
 use mathlib.Core.Bool.{Bool, true, false}
 use Prim.Native.Nat.{ℕ, min, _+_, _-_, _*_, _^_, _≤_, _<_}
+use native.Mathlib.Nat.{sub-zero}
 use native.Mathlib.Omega.{arith}
-use lib.ListN.{length, drop, length-append}
+use lib.ListN.{length, take, drop, length-append}
 use lib.Dec.{eqb}
 use borrow.Author.Tests.{eq-eqb, ne-eqb}
 use Rattle.number.specs.Tests.{pick}
+use Rattle.number.proofs.Picks.{rest-of}
 use Rattle.table.specs.Sizes.{rowNumbers, maxRows}
 use Rattle.table.specs.Rows.{Row, seen, inHalves, room, rowAt, rowsOf}
 use Rattle.table.specs.declared.rows.Row as code
-use Rattle.table.proofs.laws.Rows.{length-rowsOf, rows-split}
+use Rattle.table.proofs.laws.Rows.{length-rowsOf, rows-split, allOf, rows-cut, rows-first, rows-none}
 use Rattle.path.specs.Inherit.{inSpace, inherits, resolved, all, lacks, orLacks, lacking, replaced, countOf}
 use Rattle.path.specs.declared.inherits.Resolved.the-variants as count
 use Rattle.path.proofs.Parts.{rows-got, space-yes, space-no, lacking-append, lacking-last, resolved-last, few-replaced}
@@ -55,50 +57,30 @@ module _ {t : List ℕ} {m s k n : ℕ} (h : Counting t m s k n) where
 
 -- WHETHER A ROW INHERITS
 
--- of some rows, and then others
-inherits-append : (xs ys : List Row) → inherits (xs ++ ys) ≡ pick (inherits xs) true (inherits ys)
-inherits-append [] ys = refl
-inherits-append (x ∷ xs) ys = go (eqb (x .inherit) 1) (inherits-append xs ys)
-  where
-    go : (b : Bool) → inherits (xs ++ ys) ≡ pick (inherits xs) true (inherits ys) → pick b true (inherits (xs ++ ys)) ≡ pick (pick b true (inherits xs)) true (inherits ys)
-    go true e = refl
-    go false e = e
+-- o is what the definition gives for the whole; the rest is yet to be asked
+pub record Asking (o : Bool) (rest : List ℕ) : Type 0 where
+  pub same : inherits (allOf rest) ≡ o
 
--- none of the first k rows does
-pub record Asking (t : List ℕ) (n k : ℕ) : Type 0 where
-  pub none : inherits (rowsOf k t) ≡ false
-  pub upto : k ≤ n
-  pub there : n ≤ room t
+pub ask-start : (t : List ℕ) (n : ℕ) → n ≤ room t → Asking (inherits (rowsOf n t)) (take (rowNumbers * n - 0) (drop 0 t))
+ask-start t n h = record { same = rw (sub-zero (rowNumbers * n), rows-cut n t h) refl }
 
-pub ask-start : (t : List ℕ) (n : ℕ) → n ≤ room t → Asking t n 0
-unfolding rowsOf
-ask-start t n h = record { none = refl; upto = omega arith; there = h }
+module _ {o : Bool} {rest : List ℕ} (h : Asking o rest) where
+  -- no row is left
+  pub ask-end : length rest < rowNumbers → false ≡ o
+  ask-end p = sym (ap inherits (rows-none rest p)) ∙ h .same
 
-module _ {t : List ℕ} {n k : ℕ} (h : Asking t n k) where
-  pub ask-end : n ≤ k → false ≡ inherits (rowsOf n t)
-  ask-end p = let e : n ≡ k = omega arith in rw e (sym (h .none))
+  module _ (p : rowNumbers ≤ length rest) {m : ℕ} (e : m ≡ rowAt rest 0 .inherit) where
+    -- the next row, and then the others
+    ask-next : pick (eqb m 1) true (inherits (allOf (drop rowNumbers rest))) ≡ o
+    ask-next = rw (rows-first rest p, ← e) at (h .same)
 
-  module _ (p : k < n) (row : code.Row) (e : row ≡ inHalves (rowAt t k)) where
-    -- the first k rows, and the next
-    ask-next : inherits (rowsOf (k + 1) t) ≡ pick (eqb (row .inherit) 1) true false
-    ask-next =
-        ap inherits (rows-got k t row (omega arith) e)
-        ∙ inherits-append (rowsOf k t) (seen row ∷ [])
-        ∙ ap (λ (b : Bool). pick b true (inherits (seen row ∷ []))) (h .none)
+    -- it inherits
+    pub ask-yes : m ≡ 1 → true ≡ o
+    ask-yes y = rw (eq-eqb m 1 y) at ask-next
 
-    -- the next does, and so one of all
-    pub ask-yes : row .inherit ≡ 1 → true ≡ inherits (rowsOf n t)
-    ask-yes y =
-        let i : inherits (rowsOf (k + 1) t) ≡ true = ask-next ∙ rw (eq-eqb (row .inherit) 1 y) refl in
-        let q : n ≡ (k + 1) + (n - (k + 1)) = omega arith in
-        sym (ap (λ (m : ℕ). inherits (rowsOf m t)) q
-        ∙ ap inherits (rows-split (k + 1) (n - (k + 1)) t)
-        ∙ inherits-append (rowsOf (k + 1) t) _
-        ∙ rw i refl)
-
-    -- or it does not
-    pub ask-no : (row .inherit ≡ 1 → ⊥) → Asking t n (k + 1)
-    ask-no y = record { none = ask-next ∙ rw (ne-eqb (row .inherit) 1 y) refl; upto = omega arith; there = h .there }
+    -- it does not
+    pub ask-no : (m ≡ 1 → ⊥) → Asking o (take (length rest - rowNumbers) (drop rowNumbers rest))
+    ask-no y = rw (rest-of rowNumbers rest) (record { same = rw (ne-eqb m 1 y) at ask-next })
 
 -- ONE ROW
 

@@ -2,7 +2,7 @@
 --     value-.., after-is, is-carried    the values as `value`, `after_value` and `below` find them
 --     ip-there, ids-there               a certificate is left, so its two values are there
 --     descend-..                        the exits of `descend`
---     few-pairs, descending             what it hands on to itself
+--     rest-fits, few-pairs, descending  what it hands on to `clear_rest` and to itself
 use mathlib.Core.Path.{_≡_, refl, sym, ap, ap₂, subst, _∙_}
 use mathlib.Core.List.{List, [], _∷_}
 use mathlib.Core.Bool.{true}
@@ -15,13 +15,13 @@ use borrow.Author.Tests.{lt-ltb, ne-eqb}
 use Rattle.number.proofs.Picks.{rest-of}
 use Rattle.table.specs.Sizes.{rowNumbers, maxRows, tableNumbers}
 use Rattle.table.specs.Rows.{Row, rowsOf, rowsIn, withRows, cleared}
-use Rattle.table.proofs.laws.Rows.{length-rowsOf, length-cleared, cleared-twice}
+use Rattle.table.proofs.laws.Rows.{length-rowsOf, length-withRows}
 use Rattle.der.specs.Parts.{is, isnt}
 use Rattle.values.specs.declared.readings.Refused.{Refused}
 use Rattle.path.specs.Bundle.{lengthOf, lengthIn, endOf, onAfter, isValues, valueIn, afterValue, certificatesIn}
 use Rattle.path.specs.Certificate.{Above, Step, onward, carried, certificate, seenAbove, checked}
 use Rattle.path.specs.Certificate as one
-use Rattle.path.specs.Paths.{below, descent, Left, tabled, Begun, issuerOf, Full, Descending, placed, ends, descended}
+use Rattle.path.specs.Paths.{below, descent, Left, tabled, Begun, issuerOf, clearedRest, Full, Descending, placed, ends, descended}
 use Rattle.path.specs.declared.bundles.End.{End}
 use Rattle.path.specs.declared.bundles.End.the-variants as end
 use Rattle.path.specs.declared.replies.Reply.{Reply}
@@ -30,6 +30,7 @@ use Rattle.path.specs.declared.certificates.Above as code
 use Rattle.path.proofs.Framed.{length-there}
 use Rattle.path.proofs.Framed as framed
 use Rattle.path.proofs.Tabled.{cleared-tabled, rows-tabled, full-tabled, full-clear, full-rows}
+use Rattle.path.proofs.Overwritten.{rest-tabled}
 use Rattle.path.proofs.Accepting.{Accepts, refuses, accepts, Small, certificate-small}
 
 -- THE VALUES
@@ -135,15 +136,7 @@ module _ {left : ℕ} {rest own : List ℕ} {old : ℕ} {issuer : List ℕ} {abo
       ids-there = rw u (second .here)
 
       -- the certificate was checked
-      module _ {ip ids own₁ own₂ : List ℕ} {r : Reply} (q : ip ≡ valueIn rest) (v : ids ≡ valueIn after) (p : own₁ ≡ cleared (rowNumbers * old) own)
-          (e : _≡_ {A = one.Left} (r, own₂) (checked a ip ids own₁)) where
-        -- its table had zeros, and room for all rows
-        zeros : own₁ ≡ cleared tableNumbers own
-        zeros = p ∙ full-clear old own (d .ours)
-
-        long : tableNumbers ≤ length own₁
-        long = omega (arith, ap length zeros ∙ length-cleared tableNumbers own, d .ours .long)
-
+      module _ {ip ids own₁ : List ℕ} {r : Reply} (q : ip ≡ valueIn rest) (v : ids ≡ valueIn after) (e : _≡_ {A = one.Left} (r, own₁) (checked a ip ids own)) where
         -- the definition at this certificate
         opened : (s : Step (List Row × ℕ)) → certificate a ip ids ≡ s
             → descended left rest own issuer above pairs
@@ -154,50 +147,56 @@ module _ {left : ℕ} {rest own : List ℕ} {old : ℕ} {issuer : List ℕ} {abo
             ap (λ (i : ℕ). descended i rest own issuer above pairs) z ∙ rw (← k, v, u, q)
 
         -- it is refused
-        pub descend-refused : {f : Refused} {issuer′ : List ℕ} → r ≡ reply.Refused f → issuer′ ≡ cleared tableNumbers issuer → _≡_ {A = Left} (reply.Refused f, own₂, issuer′) (descended left rest own issuer above pairs)
+        pub descend-refused : {f : Refused} {issuer′ : List ℕ} → r ≡ reply.Refused f → issuer′ ≡ cleared tableNumbers issuer → _≡_ {A = Left} (reply.Refused f, own₁, issuer′) (descended left rest own issuer above pairs)
         descend-refused {f} y w =
-            let t = refuses a ip ids own₁ r own₂ long e f y in
-            ap₂ (λ (o i : List ℕ). (reply.Refused f, o, i)) (t .table ∙ ap (λ (l : List ℕ). cleared tableNumbers l) zeros ∙ cleared-twice tableNumbers own) w ∙ sym (opened (isnt f) (t .so))
+            let t = refuses a ip ids own r own₁ (d .ours .long) e f y in
+            ap₂ (λ (o i : List ℕ). (reply.Refused f, o, i)) (t .table) w ∙ sym (opened (isnt f) (t .so))
 
-        -- it is accepted: its rows are in its own table, and the next one is read into its issuer's
+        -- it is accepted: its rows are in its own table, over the old ones
         module _ {n more : ℕ} (y : r ≡ reply.Accepted n more) where
           -- what was accepted, which is not much
-          t : Accepts a ip ids own₁ own₂ n more
-          t = accepts a ip ids own₁ r own₂ long e n more y
+          t : Accepts a ip ids own own₁ n more
+          t = accepts a ip ids own r own₁ (d .ours .long) e n more y
 
           small : Small a (t .held)
           small = certificate-small a (t .held) ip ids (t .so)
 
-          -- its table
-          table : own₂ ≡ tabled own (t .held .0)
-          table = t .table ∙ ap (λ (l : List ℕ). withRows l 0 (t .held .0)) zeros
+          -- the old ones were within the table
+          pub rest-fits : rowNumbers * old ≤ length own₁
+          rest-fits = omega (arith, d .ours .few, d .ours .long, ap length (t .table) ∙ length-withRows own 0 (t .held .0))
 
           -- its pairs are few
           pub few-pairs : more ≤ 2 * maxRows
           few-pairs = omega (arith, small .pairs, t .counted, count-theirs, d .theirs .few)
 
-          -- its table has its rows, and then zeros
-          ours : Full n own₂
-          ours = rw table (full-tabled own (t .held .0) (small .rows) n (d .ours .long) (t .rows))
+          -- what is left of the old rows is cleared, and the next one is read into its issuer's table
+          module _ {own₂ : List ℕ} (p : own₂ ≡ clearedRest n old own₁) where
+            -- its table
+            table : own₂ ≡ tabled own (t .held .0)
+            table = p ∙ ap₂ (λ (k : ℕ) (l : List ℕ). clearedRest k old l) (t .rows) (t .table) ∙ rest-tabled old own (d .ours) (t .held .0) (small .rows)
 
-          -- it is the next one's issuer
-          issued : (next : code.Above) → next ≡ issuerOf above ip ids n → seenAbove next own₂ ≡ below a (ip, ids) (t .held .0)
-          issued next x =
-              let rows : rowsIn n own₂ ≡ t .held .0 =
-              full-rows n own₂ ours ∙ ap₂ (λ (k : ℕ) (l : List ℕ). rowsOf k l) (t .rows) table ∙ rows-tabled own (t .held .0) (small .rows) (d .ours .long) in
-              rw x (ap₂ (λ (k : ℕ) (rs : List Row). record { certificates = k; rows = rs; ip = carried ip; ids = carried ids }) (add-one (above .certificates)) rows)
+            -- its table has its rows, and then zeros
+            ours : Full n own₂
+            ours = rw table (full-tabled own (t .held .0) (small .rows) n (d .ours .long) (t .rows))
 
-          module _ {next : code.Above} {rest′ : List ℕ} (x : next ≡ issuerOf above ip ids n) (w : rest′ ≡ afterValue after) where
-            -- what holds before the next one, whatever pairs are counted that fit
-            pub descending : {total : ℕ} → (more ≤ 2 * maxRows → total + 2 * maxRows * (left - 1) < 2 ^ 64) → Descending (left - 1) rest′ issuer (above .rows) own₂ next total
-            descending fits = rw (w, x, u) (record { framed = second .on; ours = d .theirs; theirs = ours; numbered = omega (arith, d .numbered); counted = fits few-pairs })
+            -- it is the next one's issuer
+            issued : (next : code.Above) → next ≡ issuerOf above ip ids n → seenAbove next own₂ ≡ below a (ip, ids) (t .held .0)
+            issued next x =
+                let rows : rowsIn n own₂ ≡ t .held .0 =
+                full-rows n own₂ ours ∙ ap₂ (λ (k : ℕ) (l : List ℕ). rowsOf k l) (t .rows) table ∙ rows-tabled own (t .held .0) (small .rows) (d .ours .long) in
+                rw x (ap₂ (λ (k : ℕ) (rs : List Row). record { certificates = k; rows = rs; ip = carried ip; ids = carried ids }) (add-one (above .certificates)) rows)
 
-            -- and what that leaves
-            pub descend-on : {own₃ issuer′ : List ℕ} {o : Reply} → _≡_ {A = Left} (o, issuer′, own₃) (descended (left - 1) rest′ issuer own₂ next (pairs + more))
-                → _≡_ {A = Left} (o, own₃, issuer′) (descended left rest own issuer above pairs)
-            unfolding swapped descended
-            descend-on g =
-                ap (λ (l : Left). swapped l) (rw (w, t .counted, issued next x) at g)
-                ∙ ends-next (left - 1) (descent (below a (ip, ids) (t .held .0)) (pairs + t .held .1) (certificatesIn (left - 1) (afterValue after))) own issuer own₂
-                (ap (λ (l : List ℕ). cleared tableNumbers l) table ∙ cleared-tabled own (t .held .0) (small .rows))
-                ∙ sym (opened (is (t .held)) (t .so))
+            module _ {next : code.Above} {rest′ : List ℕ} (x : next ≡ issuerOf above ip ids n) (w : rest′ ≡ afterValue after) where
+              -- what holds before the next one, whatever pairs are counted that fit
+              pub descending : {total : ℕ} → (more ≤ 2 * maxRows → total + 2 * maxRows * (left - 1) < 2 ^ 64) → Descending (left - 1) rest′ issuer (above .rows) own₂ next total
+              descending fits = rw (w, x, u) (record { framed = second .on; ours = d .theirs; theirs = ours; numbered = omega (arith, d .numbered); counted = fits few-pairs })
+
+              -- and what that leaves
+              pub descend-on : {own₃ issuer′ : List ℕ} {o : Reply} → _≡_ {A = Left} (o, issuer′, own₃) (descended (left - 1) rest′ issuer own₂ next (pairs + more))
+                  → _≡_ {A = Left} (o, own₃, issuer′) (descended left rest own issuer above pairs)
+              unfolding swapped descended
+              descend-on g =
+                  ap (λ (l : Left). swapped l) (rw (w, t .counted, issued next x) at g)
+                  ∙ ends-next (left - 1) (descent (below a (ip, ids) (t .held .0)) (pairs + t .held .1) (certificatesIn (left - 1) (afterValue after))) own issuer own₂
+                  (ap (λ (l : List ℕ). cleared tableNumbers l) table ∙ cleared-tabled own (t .held .0) (small .rows))
+                  ∙ sym (opened (is (t .held)) (t .so))

@@ -7,6 +7,7 @@ pub mod Descending
 pub mod Framed
 pub mod Inheriting
 pub mod Meeting
+pub mod Overwritten
 pub mod Parts
 pub mod Putting
 pub mod Tabled

@@ -1,4 +1,5 @@
 -- What a lent table has after its rows are written: the rows, and then zeros. Assumes nothing.
+--     withRows-past           the numbers past the rows stay
 --     cleared-tabled          zeros in the place of rows and zeros
 --     rows-tabled             the rows that were written
 --     full-none, full-tabled  a table of zeros, and one with rows written after that
@@ -19,7 +20,7 @@ use Rattle.path.specs.Paths.{tabled, Full}
 use Rattle.path.proofs.Checking.{rows-in}
 
 -- the numbers past the rows that are written stay
-withRows-past : (t : List ℕ) (n : ℕ) (rs : List Row) (k : ℕ) → rowNumbers * (n + length rs) ≤ k → getD (withRows t n rs) k 0 ≡ getD t k 0
+pub withRows-past : (t : List ℕ) (n : ℕ) (rs : List Row) (k : ℕ) → rowNumbers * (n + length rs) ≤ k → getD (withRows t n rs) k 0 ≡ getD t k 0
 unfolding withRows
 withRows-past t n [] k h = refl
 withRows-past t n (r ∷ rs) k h = withRows-past (withRow t n r) (n + 1) rs k (omega arith) ∙ kept-outside t n r k (inr (omega arith))

@@ -5,16 +5,14 @@ use mathlib.Core.Bool.{Bool, true, false}
 use Prim.Native.Nat.{ℕ, suc, min, _+_, _-_, _*_, _≤_, _<_, _^_}
 use native.Mathlib.Nat.{sub-zero}
 use native.Mathlib.Omega.{arith}
-use lib.ListN.{drop}
+use lib.ListN.{length, take, drop, length-take, length-drop}
 use Rattle.number.specs.Tests.{pick}
 use Rattle.number.specs.Halves.{halves}
 use Rattle.number.specs.declared.halves.Halves.{Halves}
-use Rattle.number.proofs.TwoHalves.{halves-whole}
+use Rattle.number.proofs.Picks.{rest-of}
 use Rattle.table.specs.Sizes.{rowNumbers}
-use Rattle.table.specs.Rows.{Row, seen, inHalves, room, rowAt, rowsOf, rowsIn}
-use Rattle.table.specs.declared.rows.Row as code
-use Rattle.table.proofs.Columns.{row-code}
-use Rattle.table.proofs.Listing.{rows-more}
+use Rattle.table.specs.Rows.{Row, room, rowAt, rowsIn}
+use Rattle.table.proofs.laws.Rows.{allOf, rows-cut, rows-first, rows-none}
 use Rattle.path.specs.Walk.{Walked, within, passed, gap, counted, stopped, against, walk, meetOf, walkedOf}
 use Rattle.path.specs.declared.walks.Found.the-variants as found
 use Rattle.path.specs.declared.walks.Meet.{Meet}
@@ -53,23 +51,6 @@ module _ (o i : Row) (os is : List Row) where
   unfolding walk against meetOf
   halt n e = step-apart (halves (gap o i)) n _ _ _ (within o i) (passed o i) e
 
--- THE ROWS LEFT
-
--- the rows from row k on, of n
-abbrev left : List ℕ → ℕ → ℕ → List Row
-left t n k = rowsOf (n - k) (drop (rowNumbers * k) t)
-
-left-none : (t : List ℕ) (n k : ℕ) → n ≤ k → left t n k ≡ []
-unfolding rowsOf
-left-none t n k h = let e : n - k ≡ 0 = omega arith in rw e
-
--- they begin with the row that is read
-left-more : (t : List ℕ) (n k : ℕ) (row : code.Row) → n ≤ room t → k < n → row ≡ inHalves (rowAt t k) → left t n k ≡ seen row ∷ left t n (k + 1)
-left-more t n k row f h e =
-    let g : n - k ≡ suc (n - (k + 1)) = omega arith in
-    let q : rowAt t k ≡ seen row = sym (ap (λ (r : code.Row). seen r) e ∙ row-code (rowAt t k)) in
-    rw g (rows-more t k (n - (k + 1)) (omega arith) ∙ ap (λ (r : Row). r ∷ left t n (k + 1)) q)
-
 -- THE LOOP
 
 abbrev added : ℕ → Walked → Walked
@@ -81,85 +62,77 @@ added-none w = let e : 0 + w .pairs ≡ w .pairs = omega arith in ap (λ (n : �
 added-counted : (k : ℕ) (w : Walked) → added k (counted w) ≡ added (k + 1) w
 added-counted k w = let e : k + suc (w .pairs) ≡ k + 1 + w .pairs = omega arith in ap (λ (n : ℕ). record { result = w .result; pairs = n }) e
 
--- w is what the definition gives for the whole; rows i and j of the two runs are the next, and each pair so far went on by one row
-pub record Walking (w : Walked) (own issuer : List ℕ) (last end i j pairs : ℕ) : Type 0 where
-  pub same : added pairs (walk (left own last i) (left issuer end j)) ≡ w
-  pub own-in : last ≤ room own
-  pub issuer-in : end ≤ room issuer
-  pub own-upto : i ≤ last
-  pub issuer-upto : j ≤ end
-  pub counts : pairs ≡ i + j
+-- w is what the definition gives for the whole; the two runs are left, and each pair so far took a row off one of them
+pub record Walking (w : Walked) (left held : List ℕ) (pairs : ℕ) : Type 0 where
+  pub same : added pairs (walk (allOf left) (allOf held)) ≡ w
+  pub fits : pairs + (room left + room held) < 2 ^ 64
 
-pub walk-start : (own issuer : List ℕ) (n m last end : ℕ) → last ≡ min n (room own) → end ≡ min m (room issuer)
-    → Walking (walk (rowsIn n own) (rowsIn m issuer)) own issuer last end 0 0 0
-walk-start own issuer n m last end p q =
+-- all rows are left
+pub walk-start : (own issuer : List ℕ) (n m last end : ℕ) → last ≡ min n (room own) → end ≡ min m (room issuer) → length own < 2 ^ 64 → length issuer < 2 ^ 64
+    → Walking (walk (rowsIn n own) (rowsIn m issuer)) (take (rowNumbers * last - 0) (drop 0 own)) (take (rowNumbers * end - 0) (drop 0 issuer)) 0
+walk-start own issuer n m last end p q f g =
+    let a = rows-cut last own (omega arith) in
+    let b = rows-cut end issuer (omega arith) in
     record {
-      same = rw (sub-zero last, sub-zero end, p, q) (added-none (walk (rowsIn n own) (rowsIn m issuer)));
-      own-in = omega arith;
-      issuer-in = omega arith;
-      own-upto = omega arith;
-      issuer-upto = omega arith;
-      counts = refl;
+      same = rw (sub-zero (rowNumbers * last), sub-zero (rowNumbers * end), a, b, p, q) (added-none (walk (rowsIn n own) (rowsIn m issuer)));
+      fits = omega (arith, length-take (rowNumbers * last - 0) (drop 0 own), length-take (rowNumbers * end - 0) (drop 0 issuer));
     }
 
-module _ {w : Walked} {own issuer : List ℕ} {last end i j pairs : ℕ} (h : Walking w own issuer last end i j pairs) where
+-- a run is shorter without its first row
+pub walk-less : (t : List ℕ) → rowNumbers ≤ length t → length (take (length t - rowNumbers) (drop rowNumbers t)) < length t
+walk-less t h = rw (rest-of rowNumbers t, length-drop) (omega arith)
+
+module _ {w : Walked} {left held : List ℕ} {pairs : ℕ} (h : Walking w left held pairs) where
   -- no own row is left
-  pub walk-end : last ≤ i → record { found = found.Covered; pairs = pairs } ≡ walkedOf w
+  pub walk-end : length left < rowNumbers → record { found = found.Covered; pairs = pairs } ≡ walkedOf w
   unfolding walk
   walk-end p =
-      let s : added pairs (walk [] (left issuer end j)) ≡ w = rw (left-none own last i p) at (h .same) in
+      let s : added pairs (walk [] (allOf held)) ≡ w = rw (rows-none left p) at (h .same) in
       let e : pairs ≡ pairs + 0 = omega arith in
       ap (λ (k : ℕ). record { found = found.Covered; pairs = k }) e ∙ ap (λ (y : Walked). walkedOf y) s
 
-  module _ (p : i < last) (o : code.Row) (e : o ≡ inHalves (rowAt own i)) where
-    own-left : left own last i ≡ seen o ∷ left own last (i + 1)
-    own-left = left-more own last i o (h .own-in) p e
+  module _ (p : rowNumbers ≤ length left) where
+    -- one pair more is a number of the code
+    pub walk-fits : pairs + 1 < 2 ^ 64
+    walk-fits = omega (arith, h .fits)
 
     -- no row of the issuer is left
-    pub walk-out : end ≤ j → o .low .lower < 2 ^ 64 → (r : answer.Walked) → r ≡ record { found = found.Missing (o .space) (o .low); pairs = pairs } → r ≡ walkedOf w
+    pub walk-out : length held < rowNumbers → {s : ℕ} {l : Halves} {r : answer.Walked} → s ≡ rowAt left 0 .space → l ≡ halves (rowAt left 0 .low)
+        → r ≡ record { found = found.Missing s l; pairs = pairs } → r ≡ walkedOf w
     unfolding walk against
-    walk-out q b r d =
-        let s : added pairs (walk (seen o ∷ left own last (i + 1)) []) ≡ w = rw (own-left, left-none issuer end j q) at (h .same) in
+    walk-out q a b d =
+        let s : added pairs (walk (rowAt left 0 ∷ allOf (drop rowNumbers left)) []) ≡ w = rw (rows-first left p, rows-none held q) at (h .same) in
         let z : pairs ≡ pairs + 0 = omega arith in
-        d ∙ ap₂ (λ (n : Halves) (k : ℕ). record { found = found.Missing (o .space) n; pairs = k }) (halves-whole (o .low) b) z ∙ ap (λ (y : Walked). walkedOf y) s
+        d ∙ rw (a, b) (ap (λ (k : ℕ). record { found = found.Missing (rowAt left 0 .space) (halves (rowAt left 0 .low)); pairs = k }) z ∙ ap (λ (y : Walked). walkedOf y) s)
 
-    module _ (q : j < end) (c : code.Row) (f : c ≡ inHalves (rowAt issuer j)) (x : Meet) (d : x ≡ meetOf (seen o) (seen c)) where
-      issuer-left : left issuer end j ≡ seen c ∷ left issuer end (j + 1)
-      issuer-left = left-more issuer end j c (h .issuer-in) q f
+    module _ (q : rowNumbers ≤ length held) {x : Meet} (d : x ≡ meetOf (rowAt left 0) (rowAt held 0)) where
+      opened : added pairs (walk (rowAt left 0 ∷ allOf (drop rowNumbers left)) (rowAt held 0 ∷ allOf (drop rowNumbers held))) ≡ w
+      opened = rw (rows-first left p, rows-first held q) at (h .same)
 
-      opened : added pairs (walk (seen o ∷ left own last (i + 1)) (seen c ∷ left issuer end (j + 1))) ≡ w
-      opened = rw (own-left, issuer-left) at (h .same)
-
-      on : (v : Walked) → walk (seen o ∷ left own last (i + 1)) (seen c ∷ left issuer end (j + 1)) ≡ counted v → added (pairs + 1) v ≡ w
+      on : (v : Walked) → walk (rowAt left 0 ∷ allOf (drop rowNumbers left)) (rowAt held 0 ∷ allOf (drop rowNumbers held)) ≡ counted v → added (pairs + 1) v ≡ w
       on v s = sym (added-counted pairs v) ∙ ap (λ (y : Walked). added pairs y) (sym s) ∙ opened
 
       -- the own row lies within the issuer's
-      pub walk-own : x ≡ meet.Within → Walking w own issuer last end (i + 1) j (pairs + 1)
+      pub walk-own : x ≡ meet.Within → Walking w (take (length left - rowNumbers) (drop rowNumbers left)) held (pairs + 1)
       walk-own m =
-          record {
-            same = rw issuer-left (on _ (on-own (seen o) (seen c) _ _ (sym d ∙ m)));
-            own-in = h .own-in;
-            issuer-in = h .issuer-in;
-            own-upto = omega arith;
-            issuer-upto = h .issuer-upto;
-            counts = omega (arith, h .counts);
-          }
+          rw (rest-of rowNumbers left)
+          (record {
+            same = rw (rows-first held q) (on _ (on-own (rowAt left 0) (rowAt held 0) _ _ (sym d ∙ m)));
+            fits = omega (arith, h .fits, length-drop rowNumbers left);
+          })
 
       -- the issuer's row ends before the own row begins
-      pub walk-issuer : x ≡ meet.Passed → Walking w own issuer last end i (j + 1) (pairs + 1)
+      pub walk-issuer : x ≡ meet.Passed → Walking w left (take (length held - rowNumbers) (drop rowNumbers held)) (pairs + 1)
       walk-issuer m =
-          record {
-            same = rw own-left (on _ (on-issuer (seen o) (seen c) _ _ (sym d ∙ m)));
-            own-in = h .own-in;
-            issuer-in = h .issuer-in;
-            own-upto = h .own-upto;
-            issuer-upto = omega arith;
-            counts = omega (arith, h .counts);
-          }
+          rw (rest-of rowNumbers held)
+          (record {
+            same = rw (rows-first left p) (on _ (on-issuer (rowAt left 0) (rowAt held 0) _ _ (sym d ∙ m)));
+            fits = omega (arith, h .fits, length-drop rowNumbers held);
+          })
 
       -- neither
-      pub walk-stops : (n : Halves) → x ≡ meet.Apart n → (r : answer.Walked) → r ≡ record { found = found.Missing (o .space) n; pairs = pairs + 1 } → r ≡ walkedOf w
-      walk-stops n m r y =
-          let (s, g) = halt (seen o) (seen c) (left own last (i + 1)) (left issuer end (j + 1)) n (sym d ∙ m) in
-          y ∙ ap (λ (k : Halves). record { found = found.Missing (o .space) k; pairs = pairs + 1 }) g
+      pub walk-stops : {n : Halves} → x ≡ meet.Apart n → {s : ℕ} {r : answer.Walked} → s ≡ rowAt left 0 .space → r ≡ record { found = found.Missing s n; pairs = pairs + 1 } → r ≡ walkedOf w
+      walk-stops {n} m e y =
+          let (s, g) = halt (rowAt left 0) (rowAt held 0) (allOf (drop rowNumbers left)) (allOf (drop rowNumbers held)) n (sym d ∙ m) in
+          y ∙ ap₂ (λ (i : ℕ) (k : Halves). record { found = found.Missing i k; pairs = pairs + 1 }) e g
           ∙ ap (λ (k : Walked). walkedOf (added pairs k)) (sym s) ∙ ap (λ (k : Walked). walkedOf k) opened

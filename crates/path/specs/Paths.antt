@@ -1,14 +1,14 @@
 -- The path check: certificates from the anchor down, each against its issuer. "All of one certificate comes before the next." A definition that runs.
-use Prim.Native.Nat.{ℕ, zero, suc, _+_, _*_, _^_, _≤_, _<_}
+use Prim.Native.Nat.{ℕ, zero, suc, _+_, _-_, _*_, _^_, _≤_, _<_}
 use mathlib.Core.Path.{_≡_}
-use mathlib.Core.List.{List, [], _∷_}
+use mathlib.Core.List.{List, [], _∷_, _++_}
 use mathlib.Core.Bool.{true}
-use lib.ListN.{length, drop}
+use lib.ListN.{length, take, drop}
 use lib.Dec.{ltb}
 use Rattle.number.specs.Tests.{pick}
 use Rattle.number.specs.declared.refusal.Refusal.{Refusal}
 use Rattle.number.specs.declared.refusal.Refusal.the-variants as refusal
-use Rattle.table.specs.Sizes.{maxRows, tableNumbers}
+use Rattle.table.specs.Sizes.{rowNumbers, maxRows, tableNumbers}
 use Rattle.table.specs.Rows.{Row, rowsOf, withRows, cleared}
 use Rattle.der.specs.Parts.{is, isnt}
 use Rattle.path.specs.Bundle.{mostCertificates, bundleHead, lengthOf, isValues, frameOf, certificatesIn}
@@ -71,6 +71,10 @@ pub record Begun (s : List ℕ) : Type 0 where
 -- a certificate with these values and n rows in its table, as the next one's issuer
 abbrev pub issuerOf : code.Above → List ℕ → List ℕ → ℕ → code.Above
 issuerOf a ip ids n = record { certificates = a .certificates + 1; rows = n; ip = carried ip; ids = carried ids }
+
+-- the table t had `old` rows, and then n others were written over them: zeros in the place of what is left of the old ones; t itself where n are enough
+unfoldable pub clearedRest : ℕ → ℕ → List ℕ → List ℕ
+clearedRest n old t = take (rowNumbers * n) t ++ cleared (rowNumbers * (old - n)) (drop (rowNumbers * n) t)
 
 -- the table t has n rows, and then zeros
 pub record Full (n : ℕ) (t : List ℕ) : Type 0 where

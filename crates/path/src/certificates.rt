@@ -98,7 +98,7 @@ fn lacked(ip: &[u8], ids: &[u8], above: Above) -> u64
     0
 }
 
-// Checks one certificate, its two values (empty where absent), against its issuer's table. Its rows are left in `own`, which had none.
+// Checks one certificate, its two values (empty where absent), against its issuer's table. Its rows are left in `own`, over the first numbers that it had; the later ones stay.
 // Returns the rows and the pairs of its walk, or the refusal; on a refusal but 16 the first 3,072 numbers of `own` are zero.
 pub fn certificate(ip: &[u8], ids: &[u8], own: &mut [u64], issuer: &[u64], above: Above) -> Reply
     ensures { λ r. ⌜ (r, now (own .exit)) ≡ spec.checked (spec.seenAbove above (now (issuer .entry))) (now (ip .entry)) (now (ids .entry)) (now (own .entry)) ⌝ }

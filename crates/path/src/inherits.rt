@@ -118,13 +118,12 @@ fn any_inherits(own: &[u64], n: usize) -> bool
     requires { ⌜ n ≤ room (now own) ⌝ }
     ensures { λ r. ⌜ r ≡ spec.inherits (rowsOf n (now (own .entry))) ⌝ }
 {
-    let mut k: usize = 0;
-    while k < n {
-        let row = rows::get(own, k);
-        if row.inherit == 1 {
+    let mut rest = &own[0..rows::ROW * n];
+    while rows::ROW <= rest.len() {
+        if rows::inherit(rest, 0) == 1 {
             return true;
         }
-        k = k + 1;
+        rest = &rest[rows::ROW..];
     }
     false
 }

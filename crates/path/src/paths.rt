@@ -1,6 +1,8 @@
 // The path check: a bundle, and two lent tables; the last certificate's rows in the first, or a refusal.
 ghost use mathlib.Core.Path.{_≡_};
-ghost use Prim.Native.Nat.{_+_, _^_, _<_};
+ghost use Prim.Native.Nat.{_+_, _*_, _^_, _≤_, _<_};
+ghost use lib.ListN.{length};
+ghost use Rattle.table.specs.Sizes.{rowNumbers};
 ghost use Rattle.path.specs.Bundle.{valueIn, afterValue, certificatesIn};
 ghost use Rattle.path.specs.Certificate.{anchor};
 ghost use Rattle.path.specs.Paths as spec;
@@ -52,7 +54,17 @@ fn below(above: Above, ip: &[u8], ids: &[u8], n: usize) -> Above
     }
 }
 
-// The descent: the next certificate of `left` is read into `own`, which has `old` rows of the certificate two above; `issuer` has the rows of its issuer.
+// Where a table that had `old` rows now has n others, and those are fewer, the rows after them are cleared.
+fn clear_rest(own: &mut [u64], n: usize, old: usize)
+    requires { ⌜ rowNumbers * old ≤ length (now own) ⌝ }
+    ensures { λ _. ⌜ now (own .exit) ≡ spec.clearedRest n old (now (own .entry)) ⌝ }
+{
+    if n < old {
+        rows::clear(&mut own[rows::ROW * n..], rows::ROW * (old - n));
+    }
+}
+
+// The descent: the next certificate of `left` is read into `own`, over `old` rows of the certificate two above; `issuer` has the rows of its issuer.
 // The two tables change roles from certificate to certificate. Returns the last certificate's rows and all pairs, or the first refusal.
 fn descend(
     left: usize,
@@ -66,8 +78,8 @@ fn descend(
     requires { ⌜ spec.Descending left (now rest) (now own) old (now issuer) above pairs ⌝ }
     ensures { λ r. ⌜ (r, now (own .exit), now (issuer .exit)) ≡ spec.descended left (now (rest .entry)) (now (own .entry)) (now (issuer .entry)) above pairs ⌝ }
 {
-    rows::clear(own, rows::ROW * old);
     if left == 0 {
+        rows::clear(own, rows::ROW * old);
         return Reply::Accepted(above.rows, pairs);
     }
     let ip = value(rest);
@@ -79,6 +91,7 @@ fn descend(
             Reply::Refused(fault)
         }
         Reply::Accepted(n, more) => {
+            clear_rest(own, n, old);
             let next = below(above, ip, ids, n);
             descend(
                 left - 1,

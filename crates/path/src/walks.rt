@@ -1,12 +1,11 @@
 // The walk over own and issuer's rows, after inheritance, with the number of row pairs looked at.
 ghost use mathlib.Core.Path.{_≡_};
-ghost use Rattle.table.specs.Rows.{seen, rowsIn};
+ghost use Rattle.table.specs.Rows.{rowAt, rowsIn};
 ghost use Rattle.path.specs.Walk as spec;
 ghost use Rattle.path.specs.declared.walks.Found.the-variants as variants;
 use number::halves;
 use number::halves::Halves;
 use table::rows;
-use table::rows::Row;
 
 // Whether the issuer holds all that the certificate holds; or the smallest number that it does not, space first.
 pub enum Found {
@@ -30,26 +29,34 @@ pub enum Meet {
     Apart(Halves),
 }
 
-fn how(own: Row, issuer: Row) -> Meet
-    ensures { λ r. ⌜ r ≡ spec.meetOf (seen own) (seen issuer) ⌝ }
+// How the rows meet that the two runs begin with. Each number is read where it is first asked for.
+fn how(own: &[u64], issuer: &[u64]) -> Meet
+    ensures { λ r. ⌜ r ≡ spec.meetOf (rowAt (now (own .entry)) 0) (rowAt (now (issuer .entry)) 0) ⌝ }
 {
-    let low = own.low;
-    if own.space == issuer.space {
-        if halves::at_most(issuer.low, low) {
-            if halves::at_most(own.high, issuer.high) {
-                return Meet::Within;
-            }
-            if halves::below(issuer.high, low) {
+    let space = rows::space(own, 0);
+    let low = rows::low(own, 0);
+    let held = rows::space(issuer, 0);
+    if space == held {
+        let end = rows::high(issuer, 0);
+        if halves::below(end, low) {
+            if halves::below(end, rows::high(own, 0)) {
                 return Meet::Passed;
             }
-            return Meet::Apart(halves::next(issuer.high));
+            if halves::below(low, rows::low(issuer, 0)) {
+                return Meet::Passed;
+            }
+            // Both, as only a row can be whose high is below its low, which no table has: document 01 asks whether it is within first.
+            return Meet::Within;
         }
-        if halves::below(issuer.high, low) {
-            return Meet::Passed;
+        if halves::below(low, rows::low(issuer, 0)) {
+            return Meet::Apart(low);
         }
-        return Meet::Apart(low);
+        if halves::below(end, rows::high(own, 0)) {
+            return Meet::Apart(halves::next(end));
+        }
+        return Meet::Within;
     }
-    if issuer.space < own.space {
+    if held < space {
         return Meet::Passed;
     }
     Meet::Apart(low)
@@ -70,27 +77,25 @@ fn missing(space: u64, low: Halves, pairs: usize) -> Walked
 pub fn walk(own: &[u64], n: usize, issuer: &[u64], m: usize) -> Walked
     ensures { λ r. ⌜ r ≡ spec.walkedOf (spec.walk (rowsIn n (now (own .entry))) (rowsIn m (now (issuer .entry)))) ⌝ }
 {
-    let last = rows::count(own, n);
-    let end = rows::count(issuer, m);
-    let mut i: usize = 0;
-    let mut j: usize = 0;
+    let last = rows::ROW * rows::count(own, n);
+    let end = rows::ROW * rows::count(issuer, m);
+    let mut left = &own[0..last];
+    let mut held = &issuer[0..end];
     let mut pairs: usize = 0;
-    while i < last {
-        let row = rows::get(own, i);
-        let low = row.low;
-        if end <= j {
-            return missing(row.space, low, pairs);
+    while rows::ROW <= left.len() {
+        if held.len() < rows::ROW {
+            return missing(rows::space(left, 0), rows::low(left, 0), pairs);
         }
         pairs = pairs + 1;
-        match how(row, rows::get(issuer, j)) {
+        match how(left, held) {
             Meet::Within => {
-                i = i + 1;
+                left = &left[rows::ROW..];
             }
             Meet::Passed => {
-                j = j + 1;
+                held = &held[rows::ROW..];
             }
             Meet::Apart(first) => {
-                return missing(row.space, first, pairs);
+                return missing(rows::space(left, 0), first, pairs);
             }
         }
     }

@@ -2,9 +2,9 @@
 --     code-row, row-code    a row in halves and a row of whole numbers, both ways
 --     front-numbers, front-alike    a row and its numbers
 --     row-at                what stands at a row that the run has
---     get-row, get-none     what `get` returns
+--     row-read, row-none    the numbers of a row that the run has, and zeros where it has none
 --     put-row, put-none     what `put` leaves
-use mathlib.Core.Path.{_≡_, sym, ap, ap₂, _∙_}
+use mathlib.Core.Path.{_≡_, ap, ap₂, _∙_}
 use mathlib.Core.List.{List, [], _∷_, _++_}
 use Prim.Native.Nat.{ℕ, _+_, _*_, _≤_, _<_, _^_}
 use native.Mathlib.Nat.{add-zero}
@@ -15,7 +15,7 @@ use borrow.Author.Tests.{lt-ltb, le-ltb}
 use Rattle.number.specs.declared.halves.Halves.{Halves}
 use Rattle.number.proofs.TwoHalves.{halves-whole, whole-halves}
 use Rattle.table.specs.Sizes.{rowNumbers}
-use Rattle.table.specs.Rows.{Row, seen, inHalves, numbers, front, room, rowAt, withRow}
+use Rattle.table.specs.Rows.{Row, seen, inHalves, numbers, front, nothing, room, rowAt, withRow}
 use Rattle.table.specs.declared.rows.Row as code
 use Rattle.table.proofs.Runs.{stores, stored}
 
@@ -41,28 +41,21 @@ module _ (t : List ℕ) (n : ℕ) where
   unfolding rowAt
   row-at h = rw (lt-ltb n (room t) h)
 
-  -- what `get` returns where the run has no row n
-  pub get-none : room t ≤ n → record { space = 0; inherit = 0; low = record { upper = 0; lower = 0 }; high = record { upper = 0; lower = 0 } } ≡ inHalves (rowAt t n)
+  -- where it has none there are zeros
+  pub row-none : room t ≤ n → nothing ≡ rowAt t n
   unfolding rowAt
-  get-none h = rw (le-ltb n (room t) h)
+  row-none h = rw (le-ltb n (room t) h)
 
-  -- the numbers that the code reads
-  abbrev read : code.Row
-  read =
-      record {
+  -- the numbers that the code reads are the row's
+  pub row-read : n < room t
+      → record {
         space = getD t (rowNumbers * n) 0;
         inherit = getD t (rowNumbers * n + 1) 0;
-        low = record { upper = getD t (rowNumbers * n + 2) 0; lower = getD t (rowNumbers * n + 3) 0 };
-        high = record { upper = getD t (rowNumbers * n + 4) 0; lower = getD t (rowNumbers * n + 5) 0 };
+        low = getD t (rowNumbers * n + 2) 0 * 2 ^ 64 + getD t (rowNumbers * n + 3) 0;
+        high = getD t (rowNumbers * n + 4) 0 * 2 ^ 64 + getD t (rowNumbers * n + 5) 0;
       }
-
-  -- they are the row
-  front-read : front (drop (rowNumbers * n) t) ≡ seen read
-  front-read = simp (getD-drop, add-zero)
-
-  -- what `get` returns where the run has row n
-  pub get-row : n < room t → ((i : ℕ) → getD t i 0 < 2 ^ 64) → read ≡ inHalves (rowAt t n)
-  get-row h f = code-row read (f _) (f _) ∙ ap (λ (r : Row). inHalves r) (sym (row-at h ∙ front-read))
+      ≡ rowAt t n
+  row-read h = rw (row-at h) (simp (getD-drop, add-zero))
 
   module _ (r : code.Row) where
     -- what `put` leaves where the run has no row n, and where it has

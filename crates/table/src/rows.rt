@@ -2,6 +2,7 @@
 // Only this file knows how many numbers a row has and in which order.
 ghost use mathlib.Core.Path.{_≡_};
 ghost use Prim.Native.Nat.{min};
+ghost use Rattle.number.specs.Halves.{halves};
 ghost use Rattle.table.specs.Rows.{inHalves, seen, room, rowAt, withRow, cleared};
 use number::halves::Halves;
 use number::halves::ZERO;
@@ -42,25 +43,63 @@ pub fn count(run: &[u64], n: usize) -> usize
     fewer(n, run.len() / ROW)
 }
 
+// Returns the space of row n of a run, or 0 where the run has no row n.
+pub fn space(run: &[u64], n: usize) -> u64
+    ensures { λ r. ⌜ r ≡ rowAt (now (run .entry)) n .space ⌝ }
+{
+    if run.len() / ROW <= n {
+        return 0;
+    }
+    run[ROW * n]
+}
+
+// Returns the inherit mark of row n of a run, or 0 where the run has no row n.
+pub fn inherit(run: &[u64], n: usize) -> u64
+    ensures { λ r. ⌜ r ≡ rowAt (now (run .entry)) n .inherit ⌝ }
+{
+    if run.len() / ROW <= n {
+        return 0;
+    }
+    run[ROW * n + 1]
+}
+
+// Returns the low of row n of a run, or 0 where the run has no row n.
+pub fn low(run: &[u64], n: usize) -> Halves
+    ensures { λ r. ⌜ r ≡ halves (rowAt (now (run .entry)) n .low) ⌝ }
+{
+    if run.len() / ROW <= n {
+        return ZERO;
+    }
+    let at = ROW * n;
+    Halves {
+        upper: run[at + 2],
+        lower: run[at + 3],
+    }
+}
+
+// Returns the high of row n of a run, or 0 where the run has no row n.
+pub fn high(run: &[u64], n: usize) -> Halves
+    ensures { λ r. ⌜ r ≡ halves (rowAt (now (run .entry)) n .high) ⌝ }
+{
+    if run.len() / ROW <= n {
+        return ZERO;
+    }
+    let at = ROW * n;
+    Halves {
+        upper: run[at + 4],
+        lower: run[at + 5],
+    }
+}
+
 // Returns row n of a run, or a row of zeros where the run has no row n.
 pub fn get(run: &[u64], n: usize) -> Row
     ensures { λ r. ⌜ r ≡ inHalves (rowAt (now (run .entry)) n) ⌝ }
 {
-    if run.len() / ROW <= n {
-        return NOTHING;
-    }
-    let at = ROW * n;
-    let low = Halves {
-        upper: run[at + 2],
-        lower: run[at + 3],
-    };
-    let high = Halves {
-        upper: run[at + 4],
-        lower: run[at + 5],
-    };
+    let low = low(run, n);
+    let high = high(run, n);
     Row {
-        space: run[at],
-        inherit: run[at + 1],
+        space: space(run, n),
+        inherit: inherit(run, n),
         low: low,
         high: high,
     }

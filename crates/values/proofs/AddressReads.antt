@@ -1,26 +1,23 @@
 -- What the code of `addresses` finds at each of its ends, in the terms of the definitions. Theorems. Assumes nothing.
---     Strung, bits-..      `any_bits_at` and `bits_at`.        brief-..        what `brief_bits` says.     prefix-..       `prefix_row` and `prefix_at`.       Limited, bounds-..       `bounds_of`
---     Bounded, any-.., both-..     `any_bounds_at` and `bounds_at`.        ranged-..        `range_row`.        range-..        `range_at`
+--     Strung, bits-..      `bits_at`.      prefix-..       `prefix_row` and `prefix_at`.       Limited, bounds-..       `bounds_of`
+--     Bounded, any-..      `bounds_at`.        ranged-..        `range_row`.        range-..        `range_at`
 use mathlib.Core.Path.{_≡_, refl, sym, ap, _∙_}
 use mathlib.Core.List.{List}
 use mathlib.Core.Bool.{Bool, true, false}
 use Prim.Native.Nat.{ℕ, _+_, _-_, _^_, _≤_, _<_}
 use native.Mathlib.Omega.{arith}
 use lib.Dec.{ltb, eqb}
-use lib.ListN.{length, getD, take, drop}
-use lib.Seq.{length-take-le}
+use lib.ListN.{length, take, drop}
 use borrow.Author.Tests.{eq-eqb, ne-eqb}
 use Rattle.number.specs.Halves.{whole, halves, bits}
 use Rattle.number.specs.Octets.{Octets}
 use Rattle.number.specs.Address.{addressOf, numberOf}
 use Rattle.number.specs.Kept.{keptMin, keptMax, oneFilled}
 use Rattle.number.specs.Shape.{isPrefix}
-use Rattle.number.specs.declared.address.Address.{Address}
 use Rattle.number.specs.declared.halves.Halves.{Halves}
 use Rattle.number.specs.declared.halves.Width.{Width}
 use Rattle.number.specs.declared.refusal.Refusal.{Refusal}
 use Rattle.number.specs.declared.refusal.Refusal.the-variants as refusal
-use Rattle.number.proofs.Picks.{rest-of}
 use Rattle.number.proofs.Sixteen.{width-octets}
 use Rattle.number.proofs.TwoHalves.{halves-whole, whole-halves}
 use Rattle.number.proofs.laws.Address.{address-is}
@@ -35,15 +32,12 @@ use Rattle.der.specs.Parts.{is, part}
 use Rattle.der.specs.declared.bits.BitString.{BitString}
 use Rattle.der.specs.declared.heads.Opening.{Opening}
 use Rattle.der.specs.declared.heads.Opening.the-variants as opening
-use Rattle.der.proofs.laws.Bits.{Begins, bits-of}
+use Rattle.der.proofs.laws.Bits.{bits-of}
 use Rattle.values.specs.Faults.{moved}
 use Rattle.values.specs.Forms.{Span, span, none, ranged}
-use Rattle.values.specs.Addresses.{bitsContents, bitsAt, boundsOf, rangeAt, prefixAt, rangeRowAt, spanned, asPrefix, asRange}
+use Rattle.values.specs.Addresses.{bitsContents, bitsAt, boundsOf, rangeAt, prefixAt, rangeRowAt, spanned}
 use Rattle.values.specs.Choices.{listedRow}
-use Rattle.values.specs.Encode.{formOctets}
-use Rattle.values.specs.Briefs.{placedBits, BriefBits}
 use Rattle.values.specs.Seen.{bitsSeen, BitsIn, boundsSeen, BoundsIn, boundsAtSeen, BoundsAtIn, rangedSeen}
-use Rattle.values.specs.declared.addresses.Brief.{Brief}
 use Rattle.values.specs.declared.addresses.BitsAt.{BitsAt}
 use Rattle.values.specs.declared.addresses.BitsAt.the-variants as string
 use Rattle.values.specs.declared.addresses.Bounds.{Bounds}
@@ -53,8 +47,6 @@ use Rattle.values.specs.declared.addresses.BoundsAt.the-variants as both
 use Rattle.values.specs.declared.addresses.Ranged.{Ranged}
 use Rattle.values.specs.declared.addresses.Ranged.the-variants as row
 use Rattle.values.proofs.Joins.{Refused, Took, Isnt, tag-refused, tag-isnt, tag-took, tag-place, join-first, join-second, join-over, join-both, sift-refused, sift-isnt, sift-took}
-use Rattle.values.proofs.BriefReads.{both-taken, begun as reads-part}
-use Rattle.values.proofs.laws.Elements.{bits-laws, bounds-laws, form-size}
 use Rattle.values.proofs.RowReads.{row-made, Rowed, row-took}
 
 -- how many bits the numbers of the space a have
@@ -88,7 +80,7 @@ pub record Strung (w : ℕ) (s : List ℕ) (n : ℕ) (x : Halves) (k : ℕ) : Ty
 pub strung : {w : ℕ} {s : List ℕ} {n : ℕ} {x : Halves} {k : ℕ} → Strung w s n x k → (part (n, whole x) (drop k s) ≡ bitsAt w s) × ((whole x < 2 ^ w) × ((0 < k) × (k ≤ length s)))
 strung r = let t = r .ends in (t .told, (r .below, (t .some, t .inside)))
 
--- the ends of `any_bits_at`
+-- the ends of `bits_at`
 module _ {r : Opening} (width : Width) (s : List ℕ) (p : r ≡ openingOf BIT-STRING s) where
   -- the head is refused
   pub bits-refused : (f : Refusal) → r ≡ opening.Bad f → Refused (bitsAt (bits width) s) (length s) f 0
@@ -110,37 +102,7 @@ module _ {r : Opening} (width : Width) (s : List ℕ) (p : r ≡ openingOf BIT-S
         let u : numberOf (b .address) ≡ whole h = sym (ap whole v ∙ whole-halves (numberOf (b .address))) in
         record { ends = tag-took BIT-STRING s p k e q (λ k c. bitsContents (readBits (bits width) c)) (b .count, whole h) (rw u at (ap bitsContents i)); below = rw u at l }
 
--- what `brief_bits` says of the octets that it took
-module _ (b : Brief) (width : Width) (s : List ℕ) (p : BriefBits (bits width) s b) (l : 0 < b .taken) where
-  -- they are those of bits that begin an address
-  brief-begins : Begins (bits width) (b .count) (placedBits (bits width) (b .bits))
-  brief-begins = let (f, u, z, t) = p .1 l in record { fits = f; below = u; zeros = z }
-
-  -- within s
-  pub brief-inside : b .taken ≤ length s
-  brief-inside = p .1 l .3 .0
-
-  -- and few
-  brief-size : length (formOctets (bits width) (asPrefix (b .count, placedBits (bits width) (b .bits)))) ≤ 40
-  brief-size = form-size (bits width) (asPrefix (b .count, placedBits (bits width) (b .bits))) (width-octets width .1) brief-begins
-
-  brief-few : b .taken ≤ 40
-  brief-few = let t = p .1 l .3 in omega (arith, sym (ap length (t .1)) ∙ length-take-le (b .taken) s (t .0), brief-size)
-
-  -- the address's number
-  brief-number : {a : Address} {h : Halves} → a ≡ addressOf width (placedBits (bits width) (b .bits)) → h ≡ halves (numberOf a) → whole h ≡ placedBits (bits width) (b .bits)
-  brief-number {a} e v = ap whole v ∙ whole-halves (numberOf a) ∙ address-is width (placedBits (bits width) (b .bits)) a (brief-begins .below) e
-
-  -- so they are read as these bits
-  pub bits-brief : {a : Address} {h : Halves} → a ≡ addressOf width (placedBits (bits width) (b .bits)) → h ≡ halves (numberOf a) → Strung (bits width) s (b .count) h (b .taken)
-  bits-brief e v =
-      let u = brief-number e v in
-      record {
-        ends = rw u (reads-part (bits-laws (bits width) (width-octets width .0)) (b .count, placedBits (bits width) (b .bits)) s (b .taken) brief-begins (omega (arith, brief-size)) l (p .1 l .3));
-        below = rw u (brief-begins .below);
-      }
-
--- what `any_bits_at` or `bits_at` answered
+-- what `bits_at` answered
 module _ {r : BitsAt} (w : ℕ) (s : List ℕ) (p : bitsSeen s r ≡ bitsAt w s) (i : BitsIn w (length s) r) where
   -- a refusal
   bits-bad : (f : Refusal) (q : ℕ) → r ≡ string.Bad f q → Refused (bitsAt w s) (length s) f q
@@ -293,7 +255,7 @@ pub bounded : {w : ℕ} {s : List ℕ} {n : ℕ} {x : Halves} {m : ℕ} {y : Hal
     → (part ((n, whole x), (m, whole y)) (drop k s) ≡ rangeAt w s) × ((whole x < 2 ^ w) × (whole y < 2 ^ w) × ((0 < k) × (k ≤ length s)))
 bounded r = let t = r .ends in (t .told, (r .min, r .max, (t .some, t .inside)))
 
--- the ends of `any_bounds_at`
+-- the ends of `bounds_at`
 module _ {o : Opening} (s : List ℕ) (p : o ≡ openingOf SEQUENCE s) where
   -- the head is refused
   pub any-refused : (w : ℕ) (f : Refusal) → o ≡ opening.Bad f → Refused (rangeAt w s) (length s) f 0
@@ -316,34 +278,6 @@ module _ {o : Opening} (s : List ℕ) (p : o ≡ openingOf SEQUENCE s) where
     any-took n x m y h =
         let (u, v) = rw h at i in
         record { ends = tag-took SEQUENCE s p k e q (λ k c. moved k (boundsOf w c)) _ (ap (moved k) (sym (rw h at g))); min = u; max = v }
-
--- the ends of `bounds_at`: two brief BIT STRINGs in a SEQUENCE
-module _ (b d : Brief) (width : Width) (s : List ℕ) (p : BriefBits (bits width) (take (length s - 2) (drop 2 s)) b)
-    (q : BriefBits (bits width) (take (length (take (length s - 2) (drop 2 s)) - b .taken) (drop (b .taken) (take (length s - 2) (drop 2 s)))) d) (l : 0 < b .taken) (m : 0 < d .taken) where
-  -- how many octets they took fits
-  pub both-fit : b .taken + d .taken < 2 ^ 64
-  both-fit = omega (arith, brief-few b width _ p l, brief-few d width _ q m)
-
-  -- they are read as a range
-  pub both-took : {v : ℕ} {x y : Address} {low high : Halves} → x ≡ addressOf width (placedBits (bits width) (b .bits)) → low ≡ halves (numberOf x)
-      → y ≡ addressOf width (placedBits (bits width) (d .bits)) → high ≡ halves (numberOf y) → 2 ≤ length s → getD s 0 0 ≡ SEQUENCE → v ≡ getD s 1 0 → b .taken + d .taken ≡ v
-      → Bounded (bits width) s (b .count) low (d .count) high (2 + b .taken + d .taken)
-  both-took {v} f g i j h t e n =
-      let min = brief-number b width _ p l f g in
-      let max = brief-number d width _ q m i j in
-      let x = brief-begins b width _ p l in
-      let y = brief-begins d width _ q m in
-      let r : (ℕ × ℕ) × (ℕ × ℕ) = ((b .count, placedBits (bits width) (b .bits)), (d .count, placedBits (bits width) (d .bits))) in
-      let z = form-size (bits width) (asRange r) (width-octets width .1) (x, y) in
-      let a = rw (rest-of 2 s) at (p .1 l .3) in
-      let c = rw (rest-of 2 s, rest-of (b .taken) (drop 2 s)) at (q .1 m .3) in
-      record {
-        ends =
-            rw (min, max) (reads-part (bounds-laws (bits width) (width-octets width .0)) r s (2 + b .taken + d .taken) (x, y) (omega arith) (omega arith)
-            (rw t at (both-taken s (b .taken) (d .taken) _ _ h (n ∙ e) (omega (arith, brief-few b width _ p l, brief-few d width _ q m)) a c)));
-        min = rw min (x .below);
-        max = rw max (y .below);
-      }
 
 -- the ends of `range_at`: what `bounds_at` answered
 module _ {v : Width} {b : BoundsAt} (a : ℕ) (s : List ℕ) (e : v ≡ widthOf a) (p : boundsAtSeen s b ≡ rangeAt (bits v) s) (i : BoundsAtIn (bits v) (length s) b) where

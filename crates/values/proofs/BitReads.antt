@@ -5,27 +5,31 @@ use mathlib.Core.List.{List, _∷_}
 use mathlib.Core.Bool.{Bool, true}
 use Prim.Native.Nat.{ℕ, suc, _+_, _-_, _*_, _/_, _%_, _^_, _≤_, _<_}
 use native.Mathlib.Omega.{arith}
-use native.Mathlib.Nat.{add-zero, mul-assoc, zero-div, mod-eq-of-lt, mul-mod-left}
+use native.Mathlib.Nat.{add-zero, mul-assoc, mul-comm, zero-div, mod-eq-of-lt, mul-mod-left}
 use lib.ListN.{length, getD, take, drop, length-drop}
-use lib.Pow.{pow-add, field, shl-shr, shl-lt}
+use lib.Pow.{pow-pos, pow-add, high, field, shl-shr, shr-shr, shl-lt}
 use lib.Seq.{length-take-le, drop-cons}
 use borrow.Author.Tests.{le-ltb}
-use Rattle.number.specs.Halves.{bits}
+use Rattle.number.specs.Halves.{halves, bits}
 use Rattle.number.specs.Octets.{Octets, value}
 use Rattle.number.specs.Address.{sixteen, addressOf}
+use Rattle.number.specs.Kept.{zeroFilled}
 use Rattle.number.specs.declared.address.Address.{Address}
+use Rattle.number.specs.declared.halves.Halves.{Halves}
 use Rattle.number.specs.declared.halves.Width.{Width}
 use Rattle.number.specs.declared.halves.Width.the-variants.{Bits32, Bits128}
 use Rattle.number.proofs.Cuts.{unit-is, unit-pos}
 use Rattle.number.proofs.Sixteen.{width-octets}
 use Rattle.number.proofs.laws.Octets.{octets-part}
 use Rattle.der.specs.Tags.{BIT-STRING}
+use Rattle.der.specs.Head.{element}
 use Rattle.der.specs.Bits.{begun, readBits, bitsOf}
 use Rattle.der.proofs.Tails.{sixteen-parts}
 use Rattle.der.proofs.laws.Bits.{Begins, Cut, cut-is, bits-of}
-use Rattle.values.specs.Briefs.{isBrief, Within, placedBits, BriefBits}
-use Rattle.values.specs.declared.addresses.Brief.{Brief}
+use Rattle.values.specs.Briefs.{isBrief, Starts, Within, placedBits, BriefBits}
+use Rattle.values.specs.declared.brief_addresses.Brief.{Brief}
 use Rattle.values.proofs.BriefReads.{brief-long, brief-tag, brief-least, brief-most, headed, of-eight}
+use Rattle.values.proofs.BriefSpans.{placed-within, placed-at}
 
 -- the first 64 of 128 bits are the first of an address that has no other
 placed-octets : (width : Width) (x : ℕ) → x < 2 ^ 64 → Within (bits width) x → sixteen 128 (x * 2 ^ 64) ≡ sixteen (bits width) (placedBits (bits width) x)
@@ -51,12 +55,14 @@ none-taken b w s e z = (rw z (omega arith), λ h. absurd (omega arith))
 zeros-of : (v u j : ℕ) → v * 2 ^ j % 2 ^ (u + j) ≡ 0 → v % 2 ^ u ≡ 0
 zeros-of v u j h = ap (λ (y : ℕ). y % 2 ^ u) (sym (shl-shr v j)) ∙ sym (field (v * 2 ^ j) u j) ∙ ap (λ (y : ℕ). y / 2 ^ j) h ∙ zero-div (2 ^ j)
 
--- 8 * k bits at the start of a word, and at the start of w bits
-moved-to : (v w k : ℕ) → k ≤ 8 → 8 * k ≤ w → v * 2 ^ (64 - 8 * k) * 2 ^ w ≡ v * 2 ^ (w - 8 * k) * 2 ^ 64
-moved-to v w k h l =
-    let e : (64 - 8 * k) + w ≡ (w - 8 * k) + 64 = omega arith in
-    let q : 2 ^ (64 - 8 * k) * 2 ^ w ≡ 2 ^ (w - 8 * k) * 2 ^ 64 = sym (pow-add 2 (64 - 8 * k) w) ∙ ap (λ (y : ℕ). 2 ^ y) e ∙ pow-add 2 (w - 8 * k) 64 in
-    mul-assoc v (2 ^ (64 - 8 * k)) (2 ^ w) ∙ ap (λ (y : ℕ). v * y) q ∙ sym (mul-assoc v (2 ^ (w - 8 * k)) (2 ^ 64))
+-- the first n bits of a word, which is the upper one of two
+word-cut : (x n : ℕ) → n ≤ 64 → zeroFilled 128 n (x * 2 ^ 64 + 0) / 2 ^ 64 ≡ x / 2 ^ (64 - n) * 2 ^ (64 - n)
+unfolding zeroFilled
+word-cut x n h =
+    let e : 128 - n ≡ 64 + (64 - n) = omega arith in
+    let f : (x * 2 ^ 64 + 0) / 2 ^ (64 + (64 - n)) ≡ x / 2 ^ (64 - n) = sym (shr-shr (x * 2 ^ 64 + 0) 64 (64 - n)) ∙ ap (λ (y : ℕ). y / 2 ^ (64 - n)) (high x 64 (pow-pos 64)) in
+    let g : 2 ^ (64 + (64 - n)) ≡ 2 ^ (64 - n) * 2 ^ 64 = pow-add 2 64 (64 - n) ∙ mul-comm (2 ^ 64) (2 ^ (64 - n)) in
+    rw (e, f, g, ← mul-assoc (x / 2 ^ (64 - n)) (2 ^ (64 - n)) (2 ^ 64)) (shl-shr (x / 2 ^ (64 - n) * 2 ^ (64 - n)) 64)
 
 -- k octets of contents, after the one that says how many bits are left over
 module _ (w k : ℕ) (s : List ℕ) (o : Octets s) (m : w % 8 ≡ 0) (some : 1 ≤ k) (most : k ≤ 8) (long : 11 ≤ length s) (seven : getD s 2 0 ≤ 7) (fits : 8 * k - getD s 2 0 ≤ w) where
@@ -81,9 +87,6 @@ module _ {t : Bool} (s : List ℕ) (p : t ≡ isBrief BIT-STRING 2 9 s) (y : t �
     pub string-most : 8 * (v - 1) ≤ 64
     string-most = omega (arith, brief-most BIT-STRING 2 9 s p y)
 
-    pub string-rest : 64 - 8 * (v - 1) < 64
-    string-rest = omega (arith, brief-least BIT-STRING 2 9 s p y)
-
     module _ {u : ℕ} (f : u ≡ getD s 2 0) (l : getD s 2 0 ≤ 7) where
       -- u bits are left over
       pub string-over : u ≤ 8 * (v - 1)
@@ -99,10 +102,10 @@ module _ {t : Bool} (s : List ℕ) (p : t ≡ isBrief BIT-STRING 2 9 s) (y : t �
       string-divides = unit-pos (64 - (8 * (v - 1) - u)) string-unit
 
       -- it was read
-      pub string-took : {n x r : ℕ} (width : Width) → Octets s → n ≡ bits width → 8 * (v - 1) - u ≤ n → x ≡ value (take 8 (take 8 (drop 3 s)))
-          → r ≡ x / 2 ^ (64 - 8 * (v - 1)) * 2 ^ (64 - 8 * (v - 1)) → r % (1 * 2 ^ (64 - (8 * (v - 1) - u)) % 2 ^ 64) ≡ 0
-          → BriefBits (bits width) s (record { taken = 3 + (v - 1); count = 8 * (v - 1) - u; bits = r })
-      string-took {n} {x} {r} width o d g i c z =
+      pub string-took : {n x : ℕ} {own : Halves} (width : Width) → Octets s → n ≡ bits width → 8 * (v - 1) - u ≤ n → x ≡ value (take 8 (take 8 (drop 3 s)))
+          → own ≡ halves (zeroFilled 128 (8 * (v - 1)) (x * 2 ^ 64 + 0)) → own .upper < 2 ^ 64 → own .upper % (1 * 2 ^ (64 - (8 * (v - 1) - u)) % 2 ^ 64) ≡ 0
+          → BriefBits (bits width) s (record { taken = 3 + (v - 1); count = 8 * (v - 1) - u; bits = own .upper })
+      string-took {n} {x} {own} width o d g i c h z =
           let long = brief-long BIT-STRING 2 9 s p y in
           let least = brief-least BIT-STRING 2 9 s p y in
           let most = brief-most BIT-STRING 2 9 s p y in
@@ -112,15 +115,19 @@ module _ {t : Bool} (s : List ℕ) (p : t ≡ isBrief BIT-STRING 2 9 s) (y : t �
           let fits : 8 * (v - 1) - getD s 2 0 ≤ bits width = omega arith in
           let j : ℕ = 64 - 8 * (v - 1) in
           let b : ℕ = value (take (v - 1) (drop 3 s)) in
-          let w : r ≡ b * 2 ^ j = rw (i, of-eight (v - 1) 3 s o few (omega arith)) at c in
+          let r : ℕ = own .upper in
+          let cut : r ≡ x / 2 ^ j * 2 ^ j = ap (λ (h : Halves). h .upper) c ∙ word-cut x (8 * (v - 1)) string-most in
+          let w : r ≡ b * 2 ^ j = rw (i, of-eight (v - 1) 3 s o few (omega arith)) at cut in
           let k : 64 - (8 * (v - 1) - u) ≡ getD s 2 0 + j = omega arith in
-          let a : b % 2 ^ getD s 2 0 ≡ 0 = zeros-of b (getD s 2 0) j (rw (unit-is (64 - (8 * (v - 1) - u)) string-unit, k, w) at z) in
+          let zeros : r % 2 ^ (64 - (8 * (v - 1) - u)) ≡ 0 = rw (unit-is (64 - (8 * (v - 1) - u)) string-unit) at z in
+          let a : b % 2 ^ getD s 2 0 ≡ 0 = zeros-of b (getD s 2 0) j (rw (k, w) at zeros) in
           let (t, begins) = string-octets (bits width) (v - 1) s o (m .0) some few long l fits a in
           let x : ℕ = b * 2 ^ (bits width - 8 * (v - 1)) in
-          let q : r * 2 ^ bits width ≡ x * 2 ^ 64 = ap (λ (n : ℕ). n * 2 ^ bits width) w ∙ moved-to b (bits width) (v - 1) few (omega arith) in
-          let number : x ≡ placedBits (bits width) r = sym (ap (λ (y : ℕ). y / 2 ^ 64) q ∙ shl-shr x 64) in
+          let wide : 8 * (v - 1) ≤ bits width = omega arith in
+          let number : x ≡ placedBits (bits width) r = sym (ap (placedBits (bits width)) w ∙ placed-at (bits width) (8 * (v - 1)) b string-most wide) in
           let whole-of : suc (v - 1) ≡ v = omega arith in
           let taken : 3 + (v - 1) ≡ 2 + v = omega arith in
           let string : take v (drop 2 s) ≡ bitsOf (bits width) (8 * (v - 1) - u) (placedBits (bits width) r) = rw (whole-of, number, ← f) at t in
           let all = headed v s (omega arith) (sym e) (omega arith) in
-          (ap (λ (y : ℕ). y % 2 ^ 64) q ∙ mul-mod-left x (2 ^ 64), λ pos. (omega arith, rw number at (begins .below), rw (number, ← f) at (begins .zeros), rw taken (omega arith, rw (brief-tag BIT-STRING 2 9 s p y, string) at all)))
+          let starts : Starts s (3 + (v - 1)) (element BIT-STRING (bitsOf (bits width) (8 * (v - 1) - u) (placedBits (bits width) r))) = rw taken (omega arith, rw (brief-tag BIT-STRING 2 9 s p y, string) at all) in
+          (rw w (placed-within (bits width) (8 * (v - 1)) b string-most wide), λ pos. (omega arith, rw number at (begins .below), rw (number, ← f) at (begins .zeros), starts, (omega arith, omega arith, h, zeros)))

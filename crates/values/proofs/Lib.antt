@@ -2,6 +2,8 @@ pub mod AddressReads
 pub mod Answers
 pub mod BitReads
 pub mod BriefReads
+pub mod BriefRows
+pub mod BriefSpans
 pub mod Choosing
 pub mod FamilyLoop
 pub mod FamilyReads

@@ -1,25 +1,21 @@
 // IPAddressOrRange: "a BIT STRING (prefix) or a SEQUENCE of two (range)" (RFC 3779, sections 2.2.3.7 to 2.2.3.9).
 // Each function reads the element that s begins with; places count from the start of s.
 ghost use mathlib.Core.Path.{_≡_};
-ghost use Prim.Native.Nat.{_*_, _/_, _^_, _<_};
 ghost use lib.ListN.{length};
 ghost use Rattle.number.specs.Halves.{whole, bits as bitsOf};
 ghost use Rattle.number.specs.Kept.{oneFilled};
-ghost use Rattle.number.specs.Address.{addressOf};
 ghost use Rattle.table.specs.Rows.{inHalves};
 ghost use Rattle.table.specs.Spaces.{widthOf};
 ghost use Rattle.values.specs.Forms.{ranged};
 ghost use Rattle.values.specs.Addresses as spec;
 ghost use Rattle.values.specs.Choices.{listedRow};
 ghost use Rattle.values.specs.Seen.{bitsSeen, BitsIn, boundsSeen, BoundsIn, boundsAtSeen, BoundsAtIn, rangedSeen, foundSeen, FoundIn};
-ghost use Rattle.values.specs.Briefs.{Within, placedBits, BriefBits};
-use crate::briefs;
+use crate::brief_addresses;
 use der::bits;
 use der::heads;
 use der::heads::Opening;
 use der::tags;
 use number::address;
-use number::address::Address;
 use number::halves;
 use number::halves::Halves;
 use number::halves::Width;
@@ -41,8 +37,8 @@ pub enum BitsAt {
     Bad(Refusal, usize),
 }
 
-// The BIT STRING that s begins with, by its head and its contents: every one is read, or refused, here.
-fn any_bits_at(width: Width, s: &[u8]) -> BitsAt
+// The BIT STRING that s begins with, by its head and its contents.
+fn bits_at(width: Width, s: &[u8]) -> BitsAt
     ensures { λ r. ⌜ bitsSeen (now (s .entry)) r ≡ spec.bitsAt (bitsOf width) (now (s .entry)) ⌝ }
     ensures { λ r. ⌜ BitsIn (bitsOf width) (length (now (s .entry))) r ⌝ }
 {
@@ -56,87 +52,6 @@ fn any_bits_at(width: Width, s: &[u8]) -> BitsAt
             BitsAt::Bad(Refusal::Contents, 0)
         }
     }
-}
-
-// A BIT STRING of one to eight octets, brief: how many octets it took, how many bits it has, and these as the first of 64, with zeros after them.
-// 0 octets where it is not brief, or is to be refused; and zeros, so that `placed` can be asked before it is known which.
-pub struct Brief {
-    pub taken: usize,
-    pub count: u32,
-    pub bits: u64,
-}
-
-// Nothing was taken.
-fn not_brief() -> Brief
-    ensures { λ r. ⌜ (r .taken ≡ 0) × (r .bits ≡ 0) ⌝ }
-{
-    Brief {
-        taken: 0,
-        count: 0,
-        bits: 0,
-    }
-}
-
-// x without its last j bits: zeros in their place.
-fn cut(x: u64, j: u32) -> u64
-    requires { ⌜ j < 64 ⌝ }
-    ensures { λ r. ⌜ r ≡ x / 2 ^ j * 2 ^ j ⌝ }
-{
-    x - x % (1u64 << j)
-}
-
-// The brief BIT STRING that s begins with: its octets are the first of a word, and the bits of them that are left over must be zeros.
-fn brief_bits(width: Width, s: &[u8]) -> Brief
-    ensures { λ r. ⌜ BriefBits (bitsOf width) (now (s .entry)) r ⌝ }
-{
-    if !briefs::is_brief(tags::BIT_STRING, 2, 9, s) {
-        return not_brief();
-    }
-    if 7 < s[2] {
-        return not_brief();
-    }
-    let octets = briefs::wide(s[1]) - 1;
-    let count = 8 * octets - briefs::wide(s[2]);
-    if halves::bits(width) < count {
-        return not_brief();
-    }
-    let bits = cut(address::spelled(&s[3..11]), 64 - 8 * octets);
-    if bits % (1u64 << (64 - count)) != 0 {
-        return not_brief();
-    }
-    Brief {
-        taken: 3 + octets as usize,
-        count: count,
-        bits: bits,
-    }
-}
-
-// The address that begins with these bits, none of which is past the width: so its octets are those of 128 bits that begin with them.
-fn placed(width: Width, bits: u64) -> Address
-    requires { ⌜ Within (bitsOf width) bits ⌝ }
-    ensures { λ r. ⌜ r ≡ addressOf width (placedBits (bitsOf width) bits) ⌝ }
-{
-    let all = Halves {
-        upper: bits,
-        lower: 0,
-    };
-    let address = address::from_halves(Width::Bits128, all);
-    let octets = address.octets;
-    Address { width, octets }
-}
-
-// The BIT STRING that s begins with.
-fn bits_at(width: Width, s: &[u8]) -> BitsAt
-    ensures { λ r. ⌜ bitsSeen (now (s .entry)) r ≡ spec.bitsAt (bitsOf width) (now (s .entry)) ⌝ }
-    ensures { λ r. ⌜ BitsIn (bitsOf width) (length (now (s .entry))) r ⌝ }
-{
-    let short = brief_bits(width, s);
-    // Before the test, so that the octets are not looked at one by one: the compiler then has the address in a register.
-    let low = address::to_halves(placed(width, short.bits));
-    if 0 < short.taken {
-        return BitsAt::Is(short.count, low, short.taken);
-    }
-    any_bits_at(width, s)
 }
 
 // The addresses that begin with the bits: zeros after them at the low end, ones at the high end.
@@ -169,16 +84,16 @@ pub enum Bounds {
     Bad(Refusal, usize),
 }
 
-// The contents of a range: min, then max, then nothing. Not by `bits_at`: where both are brief, `bounds_at` has taken them.
+// The contents of a range: min, then max, then nothing.
 fn bounds_of(width: Width, s: &[u8]) -> Bounds
     ensures { λ r. ⌜ boundsSeen r ≡ spec.boundsOf (bitsOf width) (now (s .entry)) ⌝ }
     ensures { λ r. ⌜ BoundsIn (bitsOf width) (length (now (s .entry))) r ⌝ }
 {
-    match any_bits_at(width, s) {
+    match bits_at(width, s) {
         BitsAt::Bad(refusal, at) => Bounds::Bad(refusal, at),
         BitsAt::Is(n, min, k) => {
             let rest = &s[k..];
-            match any_bits_at(width, rest) {
+            match bits_at(width, rest) {
                 BitsAt::Bad(refusal, at) => Bounds::Bad(refusal, k + at),
                 BitsAt::Is(m, max, j) => {
                     if j < rest.len() {
@@ -198,7 +113,7 @@ pub enum BoundsAt {
 }
 
 // The range that s begins with, by its head and its contents.
-fn any_bounds_at(width: Width, s: &[u8]) -> BoundsAt
+fn bounds_at(width: Width, s: &[u8]) -> BoundsAt
     ensures { λ r. ⌜ boundsAtSeen (now (s .entry)) r ≡ spec.rangeAt (bitsOf width) (now (s .entry)) ⌝ }
     ensures { λ r. ⌜ BoundsAtIn (bitsOf width) (length (now (s .entry))) r ⌝ }
 {
@@ -209,32 +124,6 @@ fn any_bounds_at(width: Width, s: &[u8]) -> BoundsAt
             Bounds::Is(n, min, m, max) => BoundsAt::Is(n, min, m, max, end),
         },
     }
-}
-
-// The range that s begins with. Two brief BIT STRINGs have fewer than 128 octets: if they are the contents, the length is one octet, and the head need not be read.
-fn bounds_at(width: Width, s: &[u8]) -> BoundsAt
-    ensures { λ r. ⌜ boundsAtSeen (now (s .entry)) r ≡ spec.rangeAt (bitsOf width) (now (s .entry)) ⌝ }
-    ensures { λ r. ⌜ BoundsAtIn (bitsOf width) (length (now (s .entry))) r ⌝ }
-{
-    if 2 <= s.len() {
-        if s[0] == tags::SEQUENCE {
-            let rest = &s[2..];
-            let first = brief_bits(width, rest);
-            let min = address::to_halves(placed(width, first.bits));
-            let k = first.taken;
-            if 0 < k {
-                let second = brief_bits(width, &rest[k..]);
-                let max = address::to_halves(placed(width, second.bits));
-                let j = second.taken;
-                if 0 < j {
-                    if k + j == briefs::wide(s[1]) as usize {
-                        return BoundsAt::Is(first.count, min, second.count, max, 2 + k + j);
-                    }
-                }
-            }
-        }
-    }
-    any_bounds_at(width, s)
 }
 
 // A row, or none where min and max are not the one form of a range.
@@ -284,8 +173,8 @@ fn range_at(space: u64, s: &[u8]) -> Found
     }
 }
 
-// Returns the row of an element of an address family, and how many octets it took.
-pub fn element(space: u64, s: &[u8]) -> Found
+// The row of an element, by its head and its contents: every one is read, or refused, here.
+fn any_element(space: u64, s: &[u8]) -> Found
     ensures { λ r. ⌜ foundSeen (now (s .entry)) r ≡ spec.addressAt (bitsOf (widthOf space)) (now (s .entry)) ⌝ }
     ensures { λ r. ⌜ FoundIn space (length (now (s .entry))) r ⌝ }
 {
@@ -295,4 +184,24 @@ pub fn element(space: u64, s: &[u8]) -> Found
         }
     }
     range_at(space, s)
+}
+
+// Returns the row of an element of an address family, and how many octets it took.
+pub fn element(space: u64, s: &[u8]) -> Found
+    ensures { λ r. ⌜ foundSeen (now (s .entry)) r ≡ spec.addressAt (bitsOf (widthOf space)) (now (s .entry)) ⌝ }
+    ensures { λ r. ⌜ FoundIn space (length (now (s .entry))) r ⌝ }
+{
+    let short = brief_addresses::brief_row(spaces::width(space), s);
+    if 0 < short.taken {
+        let low = short.low;
+        let high = short.high;
+        let row = Row {
+            space: space,
+            inherit: 0,
+            low: low,
+            high: high,
+        };
+        return Found::Is(row, short.taken);
+    }
+    any_element(space, s)
 }

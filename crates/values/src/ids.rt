@@ -276,12 +276,12 @@ pub fn as_element(s: &[u8]) -> Found
     as_range_at(s)
 }
 
-// The routing domain identifier that s begins with.
+// The routing domain identifier that s begins with: by its head and its contents, as such are hardly ever used, and need not be fast.
 fn rdi_number_at(s: &[u8]) -> Found
     ensures { λ r. ⌜ foundSeen (now (s .entry)) r ≡ spec.numberAt (now (s .entry)) ⌝ }
     ensures { λ r. ⌜ FoundIn routingDomains (length (now (s .entry))) r ⌝ }
 {
-    match integer_at(s) {
+    match any_integer_at(s) {
         IntegerAt::Bad(refusal, at) => Found::Bad(refusal, at),
         IntegerAt::Is(x, end) => Found::Is(rdi_row(RdiNumber(x), RdiNumber(x)), end),
     }
@@ -292,7 +292,7 @@ fn rdi_range_at(s: &[u8]) -> Found
     ensures { λ r. ⌜ foundSeen (now (s .entry)) r ≡ spec.rangeAt (now (s .entry)) ⌝ }
     ensures { λ r. ⌜ FoundIn routingDomains (length (now (s .entry))) r ⌝ }
 {
-    match pair_at(s) {
+    match any_pair_at(s) {
         PairAt::Bad(refusal, at) => Found::Bad(refusal, at),
         PairAt::Is(min, max, end) => match rdi_range(RdiNumber(min), RdiNumber(max)) {
             Listed::No => Found::Bad(Refusal::RangeForm, 0),

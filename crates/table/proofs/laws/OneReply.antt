@@ -3,6 +3,10 @@ use denote.Ref.{now}
 use Rattle.number.proofs.laws.OneReply.{OneReply, one-reply}
 use Rattle.table.proofs.rows.fewer.Reads as fewer
 use Rattle.table.proofs.rows.count.Reads as count
+use Rattle.table.proofs.rows.space.Reads as space
+use Rattle.table.proofs.rows.inherit.Reads as inherit
+use Rattle.table.proofs.rows.low.Reads as low
+use Rattle.table.proofs.rows.high.Reads as high
 use Rattle.table.proofs.rows.get.Reads as get
 use Rattle.table.proofs.rows.put.Reads as put
 use Rattle.table.proofs.rows.clear.Reads as clear
@@ -17,6 +21,22 @@ fewer-one-reply κs a r r′ s s′ p q = one-reply p q
 -- rows::count
 pub count-one-reply : OneReply count.Post (λ κs r s. r)
 count-one-reply κs a r r′ s s′ p q = one-reply p q
+
+-- rows::space
+pub space-one-reply : OneReply space.Post (λ κs r s. r)
+space-one-reply κs a r r′ s s′ p q = one-reply p q
+
+-- rows::inherit
+pub inherit-one-reply : OneReply inherit.Post (λ κs r s. r)
+inherit-one-reply κs a r r′ s s′ p q = one-reply p q
+
+-- rows::low
+pub low-one-reply : OneReply low.Post (λ κs r s. r)
+low-one-reply κs a r r′ s s′ p q = one-reply p q
+
+-- rows::high
+pub high-one-reply : OneReply high.Post (λ κs r s. r)
+high-one-reply κs a r r′ s s′ p q = one-reply p q
 
 -- rows::get
 pub get-one-reply : OneReply get.Post (λ κs r s. r)

@@ -5,6 +5,7 @@
 --     kept-outside               the numbers of no other row change
 --     rows-alike, rows-last      runs that agree in their rows' numbers; the last of some rows
 --     length-rowsOf, rows-split, rows-read    n rows are n, the first k of them and the others, and the last one as it is read
+--     rows-cut, rows-first, rows-none    all rows of a run: one that is cut off after n rows, the first row and the others, and none
 --     withRow-later              the numbers after a table's rows stay
 --     withRow-swap               two rows are written in either order
 --     withRows-append, withRows-snoc, length-withRows, withRows-later, withRows-swap    the same of rows one after another
@@ -158,6 +159,27 @@ rows-split (suc k) m t =
 -- one row more, as it is read
 pub rows-read : (k : ℕ) (t : List ℕ) → k < room t → rowsOf (k + 1) t ≡ rowsOf k t ++ (rowAt t k ∷ [])
 rows-read k t h = ap (λ (i : ℕ). rowsOf i t) (add-one k) ∙ rows-last k t ∙ ap (λ (r : Row). rowsOf k t ++ (r ∷ [])) (sym (row-at t k h))
+
+-- all rows of a run
+abbrev pub allOf : List ℕ → List Row
+allOf t = rowsOf (room t) t
+
+-- the rows of a run that is cut off after n rows
+pub rows-cut : (n : ℕ) (t : List ℕ) → n ≤ room t → allOf (take (rowNumbers * n) t) ≡ rowsOf n t
+rows-cut n t h =
+    let e : room (take (rowNumbers * n) t) ≡ n = rw (length-take-le (rowNumbers * n) t (omega arith)) (omega arith) in
+    rw e (rows-alike n (take (rowNumbers * n) t) t (λ i b. getD-take (rowNumbers * n) t i 0 b))
+
+-- all rows of a run are its first one and those after it
+pub rows-first : (t : List ℕ) → rowNumbers ≤ length t → allOf t ≡ rowAt t 0 ∷ allOf (drop rowNumbers t)
+rows-first t h =
+    let e : room t ≡ suc (room (drop rowNumbers t)) = rw length-drop (omega arith) in
+    rw e (rows-more t 0 (room (drop rowNumbers t)) (omega arith))
+
+-- a run too short for a row has none
+pub rows-none : (t : List ℕ) → length t < rowNumbers → allOf t ≡ []
+unfolding rowsOf
+rows-none t h = let e : room t ≡ 0 = omega arith in rw e
 
 -- the rows before the written one, and then it
 pub rows-put : (t : List ℕ) (n : ℕ) (r : Row) → n < room t → rowsOf (n + 1) (withRow t n r) ≡ rowsOf n t ++ (r ∷ [])

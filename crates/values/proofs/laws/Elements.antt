@@ -1,5 +1,5 @@
 -- The elements of a list, both ways: octets, and low and high. Theorems. Assumes nothing.
---     address-laws     an address prefix or range, at any width of whole octets
+--     address-laws     an address prefix or range, at any width of whole octets.       form-reads      by its form
 --     id-laws      an AS number or routing domain identifier, or a range of them
 --     element-laws, step-laws      an element of any list, alone and in its list
 --     element-some, element-size       how many octets it takes.       form-size       a prefix or range by its bits.       number-size, pair-size      an INTEGER, a range of two
@@ -82,17 +82,17 @@ module _ (w : ℕ) (m : w % 8 ≡ 0) where
   }
 
   -- a BIT STRING
-  pub bits-laws : Outer (address.bitsAt w) (λ b. formOctets w (address.asPrefix b)) (λ b. Parts w (address.asPrefix b))
+  bits-laws : Outer (address.bitsAt w) (λ b. formOctets w (address.asPrefix b)) (λ b. Parts w (address.asPrefix b))
   unfolding address.bitsAt
   bits-laws = tagged-laws (at 0) BIT-STRING (λ k. bits-inner)
 
   -- two of them
-  pub bounds-laws : Outer (address.rangeAt w) (λ r. formOctets w (address.asRange r)) (λ r. Parts w (address.asRange r))
+  bounds-laws : Outer (address.rangeAt w) (λ r. formOctets w (address.asRange r)) (λ r. Parts w (address.asRange r))
   unfolding address.rangeAt address.boundsOf
   bounds-laws = tagged-laws (at 0) SEQUENCE (λ k. moved-inner k (only-laws (λ j. at j refusal.OctetsLeft) (two-laws bits-laws (λ j b o. moved-outer j bits-laws))))
 
   -- a form that was written is read
-  form-reads : (f : Form) (r : ℕ × ℕ) (rest : List ℕ) → spanOf w f ≡ span (r .0) (r .1) → Parts w f → Sized (formOctets w f) → address.addressAt w (formOctets w f ++ rest) ≡ part r rest
+  pub form-reads : (f : Form) (r : ℕ × ℕ) (rest : List ℕ) → spanOf w f ≡ span (r .0) (r .1) → Parts w f → Sized (formOctets w f) → address.addressAt w (formOctets w f ++ rest) ≡ part r rest
   unfolding address.addressAt address.prefixAt address.rangeRowAt
   form-reads (prefix n x) r rest e p z = rw (tag-first BIT-STRING (bitsOf w n x) rest) (seen-reads w address.asPrefix bits-laws (n, x) r rest e p z)
   form-reads (range n x k y) r rest e p z =

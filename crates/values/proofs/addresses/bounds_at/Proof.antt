@@ -1,6 +1,7 @@
 -- `values::addresses::bounds_at` meets its contract. Assumes nothing.
 use borrow.Author.Needs.{needs}
-use Rattle.values.proofs.AddressReads.{bounded, brief-inside, both-fit, both-took}
+use Rattle.values.proofs.Joins.{refused, tag-order, tag-inside}
+use Rattle.values.proofs.AddressReads.{bounded, any-refused, any-isnt, any-fits, any-took}
 use Rattle.values.proofs.addresses.bounds_at.Statement.{statement}
 use Rattle.values.proofs.addresses.bounds_at.Tie as tie
 
@@ -8,32 +9,16 @@ pub bounds-at-spec : {M : Type 1} → statement M
 bounds-at-spec =
     tie.close
     (tie.spec
-    (λ c. search needs)  -- shared-slice-read-if2
-    (λ c. search needs)  -- sub-rest
-    (λ c. search needs)  -- part-rest-start
-    (λ c. search needs)  -- part-rest-end
-    (λ c κs. search needs)  -- brief-bits-requires
-    (λ c κs. search needs)  -- placed-requires
-    (λ c κs. search needs)  -- to-halves-requires
-    (λ c. search (brief-inside, needs))  -- sub-brief-bits
-    (λ c. search (brief-inside, needs))  -- part-brief-bits-start
-    (λ c. search needs)  -- part-brief-bits-end
-    (λ c κs. search needs)  -- brief-bits-requires-2
-    (λ c κs. search needs)  -- placed-requires-2
-    (λ c κs. search needs)  -- to-halves-requires-2
-    (λ c. search (both-fit, needs))  -- add-if5
-    (λ c. search needs)  -- shared-slice-read-wide
-    (λ c κs. search needs)  -- wide-requires
-    (λ c. search needs)  -- cast-if5
-    (λ c. search needs)  -- add-t32
-    (λ c. search needs)  -- add-t33
-    (λ c.
-    let j = c .before .before .before .before in
-    let d = j .before .before in
-    let g = d .before .before .before in
-    let b = g .before .before in
-    bounded
-    (both-took (b .brief-bits .result) (d .brief-bits2 .result) (b .before .before .before .before .before .before .args .width) _ (b .brief-bits .ensures) (d .brief-bits2 .ensures) (search needs) (search needs)
-    (g .before .placed .ensures) (g .to-halves .ensures) (j .before .placed2 .ensures) (j .to-halves2 .ensures) (search needs) (search needs) (c .before .wide .ensures .0) (search needs)))  -- returns
-    (λ c κs. search needs)  -- any-bounds-at-requires
-    (λ c. search needs))  -- returns-2
+    (λ c κs. search needs)  -- open-requires
+    (λ c. search needs)  -- enum-known-refusal
+    (λ c. search needs)  -- enum-known-k
+    (λ c. search (tag-order, needs))  -- sub-bounds-of
+    (λ c. search (tag-order, needs))  -- part-bounds-of-start
+    (λ c. search (tag-inside, needs))  -- part-bounds-of-end
+    (λ c κs. search needs)  -- bounds-of-requires
+    (λ c. search needs)  -- enum-known-refusal-2
+    (λ c. search (any-fits, needs))  -- add-t20
+    (λ c. search needs)  -- enum-known-n
+    (λ c. refused (search (any-refused, needs)))  -- returns
+    (λ c. refused (search (any-isnt, needs)))  -- returns-2
+    (λ c. bounded (search (any-took, needs))))  -- returns-3

@@ -9,13 +9,13 @@ pub bounds-of-spec : {M : Type 1} → statement M
 bounds-of-spec =
     tie.close
     (tie.spec
-    (λ c κs. search needs)  -- any-bits-at-requires
+    (λ c κs. search needs)  -- bits-at-requires
     (λ c. search needs)  -- enum-known-refusal
     (λ c. search needs)  -- enum-known-n
     (λ c. search (bits-inside, needs))  -- sub-rest
     (λ c. search (bits-inside, needs))  -- part-rest-start
     (λ c. search needs)  -- part-rest-end
-    (λ c κs. search needs)  -- any-bits-at-requires-2
+    (λ c κs. search needs)  -- bits-at-requires-2
     (λ c. search needs)  -- enum-known-refusal-2
     (λ c. search (bounds-fits, needs))  -- add-t21
     (λ c. search needs)  -- enum-known-m

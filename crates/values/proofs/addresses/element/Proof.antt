@@ -1,9 +1,7 @@
 -- `values::addresses::element` meets its contract. Assumes nothing.
 use borrow.Author.Needs.{needs}
-use mathlib.Core.Logic.{⊎-elim}
-use Rattle.number.proofs.Picks.{picks}
-use Rattle.values.specs.Addresses.{addressAt}
-use Rattle.values.proofs.Joins.{no-tag}
+use Rattle.values.proofs.RowReads.{rowed}
+use Rattle.values.proofs.BriefRows.{short-row}
 use Rattle.values.proofs.addresses.element.Statement.{statement}
 use Rattle.values.proofs.addresses.element.Tie as tie
 
@@ -11,8 +9,8 @@ pub element-spec : {M : Type 1} → statement M
 element-spec =
     tie.close
     (tie.spec
-    (λ c. search needs)  -- shared-slice-read-if2
-    (λ c κs. search needs)  -- prefix-at-requires
-    (λ c. unfold addressAt in search (picks, needs))  -- returns
-    (λ c κs. search needs)  -- range-at-requires
-    (λ c. ⊎-elim (λ w. let n = w .2 .left in unfold addressAt in search (picks, needs)) (λ w. let n = w .left in unfold addressAt in search (no-tag, picks, needs)) (c .before .if1 .came)))  -- returns-2
+    (λ c κs. search needs)  -- width-requires
+    (λ c κs. search needs)  -- brief-row-requires
+    (λ c. let b = c .before .before .before .before in rowed (short-row _ _ (b .brief-row .result) (b .before .width .ensures) (b .brief-row .ensures) (search needs)))  -- returns
+    (λ c κs. search needs)  -- any-element-requires
+    (λ c. search needs))  -- returns-2

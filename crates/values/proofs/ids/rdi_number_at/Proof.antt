@@ -10,7 +10,7 @@ pub rdi-number-at-spec : {M : Type 1} → statement M
 rdi-number-at-spec =
     tie.close
     (tie.spec
-    (λ c κs. search needs)  -- integer-at-requires
+    (λ c κs. search needs)  -- any-integer-at-requires
     (λ c. search needs)  -- enum-known-refusal
     (λ c. search needs)  -- enum-known-x
     (λ c κs. search needs)  -- rdi-row-requires

@@ -10,7 +10,7 @@ pub rdi-range-at-spec : {M : Type 1} → statement M
 rdi-range-at-spec =
     tie.close
     (tie.spec
-    (λ c κs. search needs)  -- pair-at-requires
+    (λ c κs. search needs)  -- any-pair-at-requires
     (λ c. search needs)  -- enum-known-refusal
     (λ c. search needs)  -- enum-known-min
     (λ c κs. search needs)  -- rdi-range-requires

@@ -1,12 +1,12 @@
--- `values::addresses::brief_bits` meets its contract. Assumes nothing.
+-- `values::brief_addresses::brief_bits` meets its contract. Assumes nothing.
 use borrow.Author.Needs.{needs}
 use borrow.Author.Tests.{not-false}
 use native.Mathlib.Omega.{arith}
 use Rattle.number.specs.Octets.{Octets}
 use Rattle.values.proofs.BriefReads.{brief-long, brief-second, brief-third}
-use Rattle.values.proofs.BitReads.{none-taken, string-some, string-most, string-rest, string-over, string-count, string-unit, string-divides, string-took}
-use Rattle.values.proofs.addresses.brief_bits.Statement.{statement}
-use Rattle.values.proofs.addresses.brief_bits.Tie as tie
+use Rattle.values.proofs.BitReads.{none-taken, string-some, string-over, string-count, string-unit, string-divides, string-took}
+use Rattle.values.proofs.brief_addresses.brief_bits.Statement.{statement}
+use Rattle.values.proofs.brief_addresses.brief_bits.Tie as tie
 
 pub brief-bits-spec : {M : Type 1} → statement M
 brief-bits-spec =
@@ -32,15 +32,14 @@ brief-bits-spec =
     (λ c. search needs)  -- part-spelled-start
     (λ c. search (brief-long, not-false, needs))  -- part-spelled-end
     (λ c κs. search needs)  -- spelled-requires
-    (λ c. search needs)  -- mul-cut
-    (λ c. search (string-most, not-false, needs))  -- sub-cut
-    (λ c κs. search (string-rest, not-false, needs))  -- cut-requires
+    (λ c. search needs)  -- mul-zero-filled
+    (λ c κs. search needs)  -- zero-filled-requires
     (λ c. search (string-count, not-false, needs))  -- sub-if4
     (λ c. search needs)  -- cast-if4
     (λ c. search (string-unit, not-false, needs))  -- shl-if4
     (λ c. search (string-divides, not-false, needs))  -- rem-if4
     (λ c κs. search needs)  -- not-brief-requires-4
     (λ c. search (none-taken, needs))  -- returns-4
-    (λ c. search needs)  -- cast-t16
-    (λ c. search needs)  -- add-t21
+    (λ c. search needs)  -- cast-t18
+    (λ c. search needs)  -- add-t24
     (λ c. let a = c .before .before .before .before .before .before .before .before .before .before .before .before .before .before in let o : Octets (a .before .args .s .now) = unfold Octets in (λ i. omega (arith, a .shared-slice-known .given i)) in search (string-took, not-false, needs)))  -- returns-5
