@@ -1,5 +1,7 @@
 // Runs the shared cases of document 01 through the readers, the writer and the path check: a case after another on standard input, its answer as a line on standard output.
 // tools/cases.py makes both files, crates/cases/stdin and stdout, from the shared cases.
+#![tactic(auto)]
+
 mod answers;
 mod fields;
 mod parted;

@@ -10,7 +10,7 @@ use number::halves::{Halves, Width};
 use number::{address, halves};
 
 // The address that the bits begin, zeros after them, and how many bits they are; `read` is false where the contents are against the rules.
-#[derive(Drop)]
+#[derive(Clone, Copy)]
 pub struct BitString {
     pub read: bool,
     pub count: u32,

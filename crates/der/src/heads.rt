@@ -7,7 +7,7 @@ ghost use Rattle.der.specs.Written.{head_written};
 use number::refusal::Refusal;
 
 // Where the contents of an element start and where they end, in octets from its tag.
-#[derive(Drop)]
+#[derive(Clone, Copy)]
 pub enum Opening {
     Is(usize, usize),
     Bad(Refusal),

@@ -8,7 +8,7 @@ use number::address;
 use number::halves::{Halves, Width};
 
 // What an INTEGER is, or why it is none. Today each cause is refusal 4.
-#[derive(Drop)]
+#[derive(Clone, Copy)]
 pub enum Integer {
     Is(u32),
     Empty,

@@ -9,7 +9,7 @@ use crate::heads::Opening;
 use number::refusal::Refusal;
 
 // A value, and a place in it: octets from its start.
-#[derive(Drop)]
+#[derive(Clone, Copy)]
 pub struct Reader<'a> {
     pub value: &'a [u8],
     pub at: usize,

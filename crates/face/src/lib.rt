@@ -1,5 +1,7 @@
 // The C face: the readers, the writer, the path check and the octets at fault over numbers and slices, for C and Rust (include/rch.h).
 // Each function gives its reply as nine numbers in a lent run, and returns the first of them.
+#![tactic(auto)]
+
 ghost use Rattle.std.specs.Prelude.{◌≤◌, ◌≡◌, length};
 ghost use Rattle.values.specs.Papers as values;
 ghost use Rattle.path.specs.Papers as path;
@@ -18,7 +20,7 @@ use writer::Writing;
 pub const NUMBERS: usize = 9;
 
 // "number (0 if accepted), certificate, extension, place, space, value upper half, value lower half, rows (the writer: octets), pairs".
-#[derive(Drop)]
+#[derive(Clone, Copy)]
 struct Nine {
     number: u64,
     certificate: u64,

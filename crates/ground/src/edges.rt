@@ -2,14 +2,14 @@
 use number::halves;
 use number::halves::{Halves, Width};
 
-#[derive(Drop)]
+#[derive(Clone, Copy)]
 pub enum Side {
     Below,
     At,
     Above,
 }
 
-#[derive(Drop)]
+#[derive(Clone, Copy)]
 pub struct Edge {
     pub power: u32,
     pub side: Side,

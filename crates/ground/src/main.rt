@@ -1,5 +1,7 @@
 // Runs edge values through every public function of `number` and of `table`, and writes a line for each case.
 // What it must write is the file stdout, which tools/ground.py makes by a model of its own.
+#![tactic(auto)]
+
 mod compare;
 mod edges;
 mod form;

@@ -2,7 +2,7 @@
 ghost use Rattle.std.specs.Prelude.{◌≡◌, ◌+◌, ltb, leb, eqb};
 ghost use Rattle.number.specs.Halves as spec;
 
-#[derive(Drop)]
+#[derive(Clone, Copy)]
 pub struct Halves {
     pub upper: u64,
     pub lower: u64,
@@ -11,7 +11,7 @@ pub struct Halves {
 pub const ZERO: Halves = Halves { upper: 0, lower: 0 };
 
 // How many bits a number of a space has: "at most 32 or 128 bits" (document 01).
-#[derive(Drop)]
+#[derive(Clone, Copy)]
 pub enum Width {
     Bits32,
     Bits128,

@@ -10,7 +10,7 @@ use crate::halves::{Halves, Width};
 use crate::{address, halves, kept};
 
 // A prefix has its number of bits.
-#[derive(Drop)]
+#[derive(Clone, Copy)]
 pub enum Shape {
     Prefix(u32),
     Range,

@@ -16,14 +16,14 @@ pub const MOST_CERTIFICATES: usize = 8;
 pub const HEAD: usize = 6;
 
 // How many certificates a well-framed bundle has; or a refusal.
-#[derive(Drop)]
+#[derive(Clone, Copy)]
 pub enum Framing {
     Certificates(usize),
     Refused(Refusal),
 }
 
 // Where a value with its length before it ends; or that it is cut short.
-#[derive(Drop)]
+#[derive(Clone, Copy)]
 pub enum End {
     At(usize),
     Cut,

@@ -16,7 +16,7 @@ use values::{limits, readings};
 
 // What the certificates above leave for the next one: how many they are, and of the last of them, the issuer, its rows and which extensions it carries.
 // Above the anchor there is none: 0 certificates, no row, and nothing that the anchor may not carry.
-#[derive(Drop)]
+#[derive(Clone, Copy)]
 pub struct Above {
     pub certificates: u64,
     pub rows: usize,

@@ -7,7 +7,7 @@ use table::rows;
 use table::rows::Row;
 
 // The rows after inheritance; or a space that the issuer does not have (refusal 14), too many rows (11), or a table too short (16).
-#[derive(Drop)]
+#[derive(Clone, Copy)]
 pub enum Inherited {
     Rows(usize),
     NoSpace(u64),
@@ -16,7 +16,7 @@ pub enum Inherited {
 }
 
 // How many rows a certificate has after inheritance; or a space that the issuer does not have.
-#[derive(Drop)]
+#[derive(Clone, Copy)]
 pub enum Resolved {
     Rows(usize),
     NoSpace(u64),

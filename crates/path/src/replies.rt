@@ -9,7 +9,7 @@ use values::limits;
 use values::readings::Refused;
 
 // "The reply carries the number of row pairs looked at"; "a refusal carries 0".
-#[derive(Drop)]
+#[derive(Clone, Copy)]
 pub enum Reply {
     // rows, pairs
     Accepted(usize, usize),

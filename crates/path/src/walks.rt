@@ -9,21 +9,21 @@ use number::halves::Halves;
 use table::rows;
 
 // Whether the issuer holds all that the certificate holds; or the smallest number that it does not, space first.
-#[derive(Drop)]
+#[derive(Clone, Copy)]
 pub enum Found {
     Covered,
     Missing(u64, Halves),
 }
 
 // "The reply carries the number of row pairs looked at."
-#[derive(Drop)]
+#[derive(Clone, Copy)]
 pub struct Walked {
     pub found: Found,
     pub pairs: usize,
 }
 
 // How an own row and an issuer's row meet.
-#[derive(Drop)]
+#[derive(Clone, Copy)]
 pub enum Meet {
     // "the own row lies within the issuer's row"
     Within,

@@ -1,11 +1,13 @@
 // pathtable: a bundle on standard input; the last certificate's table, or the refusal, on standard output.
+#![tactic(auto)]
+
 ghost use Rattle.pathtable.specs.Inputs.{Within};
 
 use path::{bundles, paths};
 use table::rows;
 
 // How many octets were read; or that reading failed.
-#[derive(Drop)]
+#[derive(Clone, Copy)]
 enum Input {
     Octets(usize),
     Failed,

@@ -1,5 +1,7 @@
 // The text of a reply of the path check and its table, as `pathtable` prints it.
 // The pieces ask for room, so they are private; they stand here, where `reports`, which has the entry, sees them.
+#![tactic(auto)]
+
 ghost use Rattle.std.specs.Prelude.{◌+◌, ◌≤◌, ◌<◌, ◌≡◌, [], length, drop};
 ghost use Rattle.number.specs.Halves.{whole};
 ghost use Rattle.table.specs.Rows.{room, rows_of, seen};

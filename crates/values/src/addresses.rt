@@ -20,14 +20,14 @@ use table::rows::Row;
 use table::spaces;
 
 // An element that was read: its row and how many octets it took; or a refusal and its place.
-#[derive(Drop)]
+#[derive(Clone, Copy)]
 pub enum Found {
     Is(Row, usize),
     Bad(Refusal, usize),
 }
 
 // A BIT STRING that was read: how many bits, the address that they begin, and how many octets it took; or a refusal and its place.
-#[derive(Drop)]
+#[derive(Clone, Copy)]
 pub enum BitsAt {
     Is(u32, Halves, usize),
     Bad(Refusal, usize),
@@ -75,7 +75,7 @@ fn prefix_at(space: u64, s: &[u8]) -> Found
 }
 
 // Min and max of a range: how many bits, and the address that they begin; or a refusal and its place.
-#[derive(Drop)]
+#[derive(Clone, Copy)]
 pub enum Bounds {
     Is(u32, Halves, u32, Halves),
     Bad(Refusal, usize),
@@ -104,7 +104,7 @@ fn bounds_of(width: Width, s: &[u8]) -> Bounds
 }
 
 // Min and max of a range, and how many octets it took; or a refusal and its place.
-#[derive(Drop)]
+#[derive(Clone, Copy)]
 pub enum BoundsAt {
     Is(u32, Halves, u32, Halves, usize),
     Bad(Refusal, usize),
@@ -125,7 +125,7 @@ fn bounds_at(width: Width, s: &[u8]) -> BoundsAt
 }
 
 // A row, or none where min and max are not the one form of a range.
-#[derive(Drop)]
+#[derive(Clone, Copy)]
 pub enum Ranged {
     Is(Row),
     No,

@@ -20,14 +20,14 @@ fn wide(x: u8) -> u64
 }
 
 // The space of an OCTET STRING's contents; or a refusal.
-#[derive(Drop)]
+#[derive(Clone, Copy)]
 pub enum SpaceOf {
     Is(u64),
     Bad(Refusal),
 }
 
 // A space, and how many octets its OCTET STRING took; or a refusal and its place.
-#[derive(Drop)]
+#[derive(Clone, Copy)]
 pub enum SpaceAt {
     Is(u64, usize),
     Bad(Refusal, usize),
@@ -73,7 +73,7 @@ fn space_at(s: &[u8], least: u64) -> SpaceAt
 }
 
 // A family's space and the rows so far; or a refusal and its place.
-#[derive(Drop)]
+#[derive(Clone, Copy)]
 pub enum Family {
     Rows(u64, usize),
     Bad(Refusal, usize),

@@ -13,7 +13,7 @@ use number::{address, halves, kept};
 
 // A BIT STRING of one to eight octets, brief: how many octets it took, how many bits it has, and these as the first of 64, with zeros after them.
 // 0 octets where it is not brief, or is to be refused; and zeros, so that `placed` can be asked before it is known which.
-#[derive(Drop)]
+#[derive(Clone, Copy)]
 pub struct Brief {
     pub taken: usize,
     pub count: u32,
@@ -102,7 +102,7 @@ fn placed_last(width: Width, last: u64) -> Halves
 }
 
 // A brief element: its low and its high, and how many octets it took. 0 octets where it is not brief, or not sure to be right.
-#[derive(Drop)]
+#[derive(Clone, Copy)]
 pub struct BriefRow {
     pub taken: usize,
     pub low: Halves,

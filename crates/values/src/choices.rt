@@ -15,7 +15,7 @@ use table::rows::Row;
 use table::{rows, spaces};
 
 // The rows so far, and how many octets were taken; or a refusal and its place.
-#[derive(Drop)]
+#[derive(Clone, Copy)]
 pub enum Chosen {
     Rows(usize, usize),
     Bad(Refusal, usize),

@@ -15,7 +15,7 @@ use number::refusal::Refusal;
 use table::rows;
 
 // The lists that a value may have: addresses of a space, AS numbers, routing domain identifiers.
-#[derive(Drop)]
+#[derive(Clone, Copy)]
 pub enum Space {
     Addresses(u64),
     AsNumbers,
@@ -23,7 +23,7 @@ pub enum Space {
 }
 
 // The rows so far; or a refusal and its place.
-#[derive(Drop)]
+#[derive(Clone, Copy)]
 pub enum Counted {
     Rows(usize),
     Bad(Refusal, usize),

@@ -21,15 +21,15 @@ use table::rows::Row;
 use table::spaces;
 
 // An AS number.
-#[derive(Drop)]
+#[derive(Clone, Copy)]
 pub struct AsNumber(pub u32);
 
 // A routing domain identifier.
-#[derive(Drop)]
+#[derive(Clone, Copy)]
 pub struct RdiNumber(pub u32);
 
 // A row, or none where min is not below max.
-#[derive(Drop)]
+#[derive(Clone, Copy)]
 pub enum Listed {
     Is(Row),
     No,
@@ -94,7 +94,7 @@ pub fn rdi_range(low: RdiNumber, high: RdiNumber) -> Listed
 }
 
 // An INTEGER that was read, and how many octets it took; or a refusal and its place.
-#[derive(Drop)]
+#[derive(Clone, Copy)]
 pub enum IntegerAt {
     Is(u32, usize),
     Bad(Refusal, usize),
@@ -118,7 +118,7 @@ fn any_integer_at(s: &[u8]) -> IntegerAt
 }
 
 // An INTEGER of one to five octets, brief: how many octets it took, and the number. 0 octets where it is not brief, or is to be refused.
-#[derive(Drop)]
+#[derive(Clone, Copy)]
 pub struct Brief {
     pub taken: usize,
     pub number: u32,
@@ -170,7 +170,7 @@ fn integer_at(s: &[u8]) -> IntegerAt
 }
 
 // Min and max of a range; or a refusal and its place.
-#[derive(Drop)]
+#[derive(Clone, Copy)]
 pub enum Pair {
     Is(u32, u32),
     Bad(Refusal, usize),
@@ -199,7 +199,7 @@ fn pair_of(s: &[u8]) -> Pair
 }
 
 // A range that was read, and how many octets it took; or a refusal and its place.
-#[derive(Drop)]
+#[derive(Clone, Copy)]
 pub enum PairAt {
     Is(u32, u32, usize),
     Bad(Refusal, usize),

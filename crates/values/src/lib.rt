@@ -1,4 +1,6 @@
 // The two extension values of RFC 3779: IPAddrBlocks and ASIdentifiers, read into the rows of a table.
+#![tactic(auto)]
+
 mod addresses;
 mod blocks;
 mod brief_addresses;

@@ -11,7 +11,7 @@ use number::refusal::Refusal;
 use table::rows;
 
 // "A refusal names certificate, extension (0 none, 1 IP, 2 AS), place, space and value".
-#[derive(Drop)]
+#[derive(Clone, Copy)]
 pub struct Refused {
     pub refusal: Refusal,
     pub certificate: u64,
@@ -22,7 +22,7 @@ pub struct Refused {
 }
 
 // The rows that the table has now, or a refusal.
-#[derive(Drop)]
+#[derive(Clone, Copy)]
 pub enum Reading {
     Rows(usize),
     Refused(Refused),

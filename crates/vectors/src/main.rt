@@ -1,5 +1,7 @@
 // Runs the shared path cases through `path` and `report`: bundles on standard input, each with its length in four octets before it, high octet first;
 // what `pathtable` prints for each on standard output, one after another.
+#![tactic(auto)]
+
 use number::address;
 use path::{bundles, paths};
 use table::rows;

@@ -18,7 +18,7 @@ use table::{rows, spaces, tables};
 use values::limits;
 
 // The rows of one space that were passed last: their space, or 0 where there are none, and the octets of their elements.
-#[derive(Drop)]
+#[derive(Clone, Copy)]
 pub struct Open {
     pub space: u64,
     pub size: usize,

@@ -1,6 +1,8 @@
 // The writer: the rows of a table as the one encoding of its value, for both kinds.
 // Lengths are computed first; then the octets are written once, from the last row to the first, each element in its place.
 // The pieces ask something of their caller, so they are private; they stand here, where `families`, which has the entry, sees them.
+#![tactic(auto)]
+
 mod families;
 
 ghost use Rattle.std.specs.Prelude.{◌≡◌, ◌+◌, ◌^◌, ◌<◌, ◌≤◌, length};
@@ -28,7 +30,7 @@ use values::readings::Refused;
 use values::{limits, readings};
 
 // How many octets were written, or a refusal.
-#[derive(Drop)]
+#[derive(Clone, Copy)]
 pub enum Writing {
     Octets(usize),
     Refused(Refused),
@@ -50,7 +52,7 @@ fn element_size(n: usize) -> usize
 }
 
 // The bits that an element keeps: a prefix's, or min's and max's.
-#[derive(Drop)]
+#[derive(Clone, Copy)]
 pub enum Form {
     Prefix(u32),
     Range(u32, u32),
