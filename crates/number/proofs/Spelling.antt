@@ -3,7 +3,7 @@
 --     array_octets     an array's elements are octets
 --     narrow, broad        the halves of an address of 32 and of 128 bits, by what its octets spell
 use mathlib.Core.Path.{◌≡◌, refl, sym, ap, ap₂, ◌∙◌}
-use mathlib.Core.List.{List, [], ◌∷◌, map}
+use mathlib.Core.List.{List, [], ◌∷◌}
 use Prim.Native.Nat.{ℕ, zero, suc, ◌+◌, ◌*◌, ◌/◌, ◌%◌, ◌^◌, ◌≤◌, ◌<◌}
 use native.Mathlib.Nat.{lt_of_lt_of_le}
 use native.Mathlib.Numerals.{add-one}
@@ -12,11 +12,10 @@ use lib.Arith.{digits_lt}
 use lib.Pow.{pow-add, pow_mono, high, low}
 use lib.ListN.{length, take, drop, get_or, length-drop}
 use lib.Seq.{take-suc, take_all, take-add, take-take, length-take-le}
-use mir.Syntax.{w8}
 use mir.Val.{Val}
 use denote.Shadow.{shadow}
 use denote.Array.{each}
-use denote.Plain.{UInt}
+use denote.Builtin.{u8}
 use Rattle.number.specs.Halves.{halves}
 use Rattle.number.specs.Octets.{Octets, value}
 use Rattle.number.specs.Address.{number_of}
@@ -78,7 +77,7 @@ small_halves {l} {n} b e =
     ap₂ (λ (x y : ℕ). record { upper = x; lower = y }) p q
 
 -- an array's elements are octets
-pub array_octets : (s : List ℕ) (vs : List Val) → shadow (each ℕ (UInt w8).own_val (map (λ x. x) s) vs) → Octets s
+pub array_octets : (s : List ℕ) (vs : List Val) → shadow (each ℕ u8.own_val s vs) → Octets s
 unfolding Octets
 array_octets [] vs o k = omega arith
 array_octets (x ∷ s) [] o k = absurd o
