@@ -79,9 +79,9 @@ looser u (an_inherit e l h v f) = an_inherit e l h (on u (le_refl _) v) f
 tidy_on : {s a : ℕ} {r : Row} {rs : List Row} → Upto s a r.space r.low → Tidy (r ∷ rs) → From s a (r ∷ rs)
 tidy_on u (Tidy.one (lists e l)) = a_list e u l no_row
 tidy_on u (Tidy.one (inherits e l h)) = an_inherit e l h (rw l at u) no_row
-tidy_on u (Tidy.more (lists e l) (by_space f) t) = a_list e u l (tidy_on (earlier_space f) t)
-tidy_on u (Tidy.more (lists e l) (by_gap f i j g) t) = a_list e u l (tidy_on (same_space f (omega arith)) t)
-tidy_on u (Tidy.more (inherits e l h) (by_space f) t) = an_inherit e l h (rw l at u) (tidy_on (begins (omega arith)) t)
+tidy_on {s = s} {a = a} u (Tidy.more {a = r} (lists e l) (by_space f) t) = a_list e u l (tidy_on {s = r.space} {a = r.high + 2} (earlier_space f) t)
+tidy_on {s = s} {a = a} u (Tidy.more {a = r} (lists e l) (by_gap f i j g) t) = a_list e u l (tidy_on {s = r.space} {a = r.high + 2} (same_space f (omega arith)) t)
+tidy_on {s = s} {a = a} u (Tidy.more {a = r} (inherits e l h) (by_space f) t) = an_inherit e l h (rw l at u) (tidy_on {s = r.space + 1} {a = 0} (begins (omega arith)) t)
 tidy_on u (Tidy.more (inherits e l h) (by_gap f i j g) t) = absurd (omega arith)
 
 -- tidy rows are rows from number 0 of space 0
@@ -108,13 +108,14 @@ pub from_tidy : {s a : ℕ} (rows : List Row) → From s a rows → Tidy rows
 from_tidy [] f = Tidy.none
 from_tidy (r ∷ []) (a_list e u l f) = Tidy.one (lists e l)
 from_tidy (r ∷ []) (an_inherit e l h u f) = Tidy.one (inherits e l h)
-from_tidy (r ∷ q ∷ rs) (a_list e u l f) = Tidy.more (lists e l) (after_list e f) (from_tidy (q ∷ rs) f)
-from_tidy (r ∷ q ∷ rs) (an_inherit e l h u f) = Tidy.more (inherits e l h) (after_inherit f) (from_tidy (q ∷ rs) f)
+from_tidy {s = s} {a = a} (r ∷ q ∷ rs) (a_list e u l f) = Tidy.more (lists e l) (after_list e f) (from_tidy {s = r.space} {a = r.high + 2} (q ∷ rs) f)
+from_tidy {s = s} {a = a} (r ∷ q ∷ rs) (an_inherit e l h u f) = Tidy.more (inherits e l h) (after_inherit f) (from_tidy {s = r.space + 1} {a = 0} (q ∷ rs) f)
 
 -- WHAT THEY HOLD
 
 -- a number that they hold is not before where they begin
 pub from : {s a t n : ℕ} {rs : List Row} → From s a rs → Holds t n rs → Upto s a t n
+from no_row h = elim h [ ]
 from (a_list e u l f) (Holds.here h) = on u h.above (same_space h.same (le_refl _))
 from (a_list e u l f) (Holds.there h) = on u (omega arith) (from f h)
 from (an_inherit e l k u f) (Holds.here h) = absurd (omega arith)
@@ -122,6 +123,7 @@ from (an_inherit e l k u f) (Holds.there h) = on u (le_refl _) (past_space (from
 
 -- a space that they inherit is not before where they begin
 pub from_inherit : {s a t : ℕ} {rs : List Row} → From s a rs → Inherits t rs → Upto s a t 0
+from_inherit no_row h = elim h [ ]
 from_inherit (a_list e u l f) (Inherits.here h q) = absurd (omega arith)
 from_inherit (a_list e u l f) (Inherits.there h) = on u (omega arith) (from_inherit f h)
 from_inherit (an_inherit e l k u f) (Inherits.here h q) = on u (le_refl _) (same_space q (le_refl _))
