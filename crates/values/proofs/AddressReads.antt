@@ -34,8 +34,8 @@ use Rattle.der.specs.declared.heads.Opening.{Opening}
 use Rattle.der.specs.declared.heads.Opening.TheVariants as opening
 use Rattle.der.proofs.laws.Bits.{bits_of_lem}
 use Rattle.values.specs.Faults.{moved}
-use Rattle.values.specs.Forms.{Span, span, none, ranged}
-use Rattle.values.specs.Addresses.{bits_contents, bits_at, bounds_of, range_at, prefix_at, range_row_at, spanned}
+use Rattle.values.specs.Forms.{Span, span, span_of, none, ranged}
+use Rattle.values.specs.Addresses.{bits_contents, bits_at, bounds_of, range_at, prefix_at, range_row_at, spanned, as_prefix}
 use Rattle.values.specs.Choices.{listed_row}
 use Rattle.values.specs.Seen.{bits_seen, BitsIn, bounds_seen, BoundsIn, bounds_at_seen, BoundsAtIn, ranged_seen}
 use Rattle.values.specs.declared.addresses.BitsAt.{BitsAt}
@@ -127,7 +127,7 @@ module _ {v : Width} {r : BitsAt} (a : ℕ) (s : List ℕ) (e : v ≡ width_of a
   -- nothing was read
   pub prefix_refused : (f : Refusal) (q : ℕ) → r ≡ string.Bad f q → Refused (prefix_at (across a) s) (length s) f q
   unfolding prefix_at
-  prefix_refused f q h = sift_refused _ (bits_at (across a) s) (length s) f q (rw e at (bits_bad (bits v) s p i f q h))
+  prefix_refused f q h = sift_refused (λ (b : ℕ × ℕ). spanned (span_of (across a) (as_prefix b))) (bits_at (across a) s) (length s) f q (rw e at (bits_bad (bits v) s p i f q h))
 
   -- a prefix
   pub prefix_took : {row : Row} (n : ℕ) (low : Halves) (k : ℕ) → r ≡ string.Is n low k → row ≡ in_halves (listed_row a (whole low, one_filled (across a) n (whole low)))
@@ -135,7 +135,7 @@ module _ {v : Width} {r : BitsAt} (a : ℕ) (s : List ℕ) (e : v ≡ width_of a
   unfolding prefix_at
   prefix_took n low k h g =
       row_took (prefix_at (across a) s) a s (whole low) (one_filled (across a) n (whole low)) k g
-      (sift_took _ (bits_at (across a) s) s (n, whole low) k (rw e at (bits_is (bits v) s p i n low k h).ends) _ refl)
+      (sift_took (λ (b : ℕ × ℕ). spanned (span_of (across a) (as_prefix b))) (bits_at (across a) s) s (n, whole low) k (rw e at (bits_is (bits v) s p i n low k h).ends) _ refl)
 
 -- min and max that were taken, and addresses of w bits
 pub record Limited (w : ℕ) (s : List ℕ) (n : ℕ) (x : Halves) (m : ℕ) (y : Halves) : Type 0 where

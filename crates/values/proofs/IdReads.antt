@@ -189,12 +189,12 @@ module _ {r : IntegerAt} (s : List ℕ) (p : integer_seen s r ≡ integer_at s) 
   -- nothing was read
   pub number_refused : (f : Refusal) (q : ℕ) → r ≡ number.Bad f q → Refused (number_at s) (length s) f q
   unfolding number_at
-  number_refused f q h = sift_refused _ (integer_at s) (length s) f q (integer_bad s p i f q h)
+  number_refused f q h = sift_refused (λ (x : ℕ). is (x, x)) (integer_at s) (length s) f q (integer_bad s p i f q h)
 
   -- a number
   pub number_took : {w : Row} (a x k : ℕ) → r ≡ number.Is x k → w ≡ in_halves (listed_row a (x, x)) → Rowed (number_at s) a s w k
   unfolding number_at
-  number_took a x k h g = row_took (number_at s) a s x x k g (sift_took _ (integer_at s) s x k (integer_is s p i x k h) (x, x) refl)
+  number_took a x k h g = row_took (number_at s) a s x x k g (sift_took (λ (y : ℕ). is (y, y)) (integer_at s) s x k (integer_is s p i x k h) (x, x) refl)
 
 -- the ends of `any_pair_at`
 module _ {o : Opening} (s : List ℕ) (p : o ≡ opening_of SEQUENCE s) where

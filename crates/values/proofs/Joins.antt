@@ -1,5 +1,6 @@
 -- Readers made of smaller ones, by what the code says of each part. Theorems. Assumes nothing.
 --     Refused, Took, Isnt      what a reader answers: of the part that s begins with, and of contents. refused, took, isnt_so      the same as a contract has it
+--     clauses     two facts, as the two clauses of a contract
 --     no_tag, tag_order, tag_inside, tag_place     no octets have a tag; where the contents of an element lie
 --     tag_refused, tag_isnt, tag_took      an element by its tag, at each end of its reader
 --     join_first, join_second, join_over, join_both    one part, then another, then nothing
@@ -38,6 +39,10 @@ pub record Isnt {X : Type 0} (o : Contents X Fault) (n : ℕ) (f : Refusal) (q :
   pub inside : q ≤ n
 
 -- as a contract has them
+-- two facts as the clauses of a contract
+pub clauses : {A B C : Type 0} → (A → B → C) → A × B → C
+clauses said p = said p.0 p.1
+
 pub refused : {X : Type 0} {o : Part X Fault} {n : ℕ} {f : Refusal} {q : ℕ} → Refused o n f q → (nopart (at q f) ≡ o) × (q ≤ n)
 refused r = (r.told, r.inside)
 

@@ -35,8 +35,8 @@ pub enum BitsAt {
 
 // The BIT STRING that s begins with, by its head and its contents.
 fn bits_at(width: Width, s: &[u8]) -> BitsAt
-    ensures result_value { bits_seen s.now result ≡ spec.bits_at (bits_of width) s.now }
-    ensures bits_in { BitsIn (bits_of width) (length s.now) result }
+    ensures seen { bits_seen s.now result ≡ spec.bits_at (bits_of width) s.now }
+    ensures inside { BitsIn (bits_of width) (length s.now) result }
 {
     match heads::open(tags::BIT_STRING, s) {
         Opening::Bad(refusal) => BitsAt::Bad(refusal, 0),
@@ -65,8 +65,8 @@ fn prefix_row(space: u64, count: u32, low: Halves) -> Row
 
 // The row of the prefix that s begins with.
 fn prefix_at(space: u64, s: &[u8]) -> Found
-    ensures result_value { found_seen s.now result ≡ spec.prefix_at (bits_of (width_of space)) s.now }
-    ensures found_in { FoundIn space (length s.now) result }
+    ensures seen { found_seen s.now result ≡ spec.prefix_at (bits_of (width_of space)) s.now }
+    ensures inside { FoundIn space (length s.now) result }
 {
     match bits_at(spaces::width(space), s) {
         BitsAt::Bad(refusal, at) => Found::Bad(refusal, at),
@@ -83,8 +83,8 @@ pub enum Bounds {
 
 // The contents of a range: min, then max, then nothing.
 fn bounds_of(width: Width, s: &[u8]) -> Bounds
-    ensures result_value { bounds_seen result ≡ spec.bounds_of (bits_of width) s.now }
-    ensures bounds_in { BoundsIn (bits_of width) (length s.now) result }
+    ensures seen { bounds_seen result ≡ spec.bounds_of (bits_of width) s.now }
+    ensures inside { BoundsIn (bits_of width) (length s.now) result }
 {
     match bits_at(width, s) {
         BitsAt::Bad(refusal, at) => Bounds::Bad(refusal, at),
@@ -112,8 +112,8 @@ pub enum BoundsAt {
 
 // The range that s begins with, by its head and its contents.
 fn bounds_at(width: Width, s: &[u8]) -> BoundsAt
-    ensures result_value { bounds_at_seen s.now result ≡ spec.range_at (bits_of width) s.now }
-    ensures bounds_at_in { BoundsAtIn (bits_of width) (length s.now) result }
+    ensures seen { bounds_at_seen s.now result ≡ spec.range_at (bits_of width) s.now }
+    ensures inside { BoundsAtIn (bits_of width) (length s.now) result }
 {
     match heads::open(tags::SEQUENCE, s) {
         Opening::Bad(refusal) => BoundsAt::Bad(refusal, 0),
@@ -160,8 +160,8 @@ fn range_row(space: u64, n: u32, low: Halves, m: u32, max: Halves) -> Ranged
 
 // The row of the range that s begins with.
 fn range_at(space: u64, s: &[u8]) -> Found
-    ensures result_value { found_seen s.now result ≡ spec.range_row_at (bits_of (width_of space)) s.now }
-    ensures found_in { FoundIn space (length s.now) result }
+    ensures seen { found_seen s.now result ≡ spec.range_row_at (bits_of (width_of space)) s.now }
+    ensures inside { FoundIn space (length s.now) result }
 {
     match bounds_at(spaces::width(space), s) {
         BoundsAt::Bad(refusal, at) => Found::Bad(refusal, at),
@@ -174,8 +174,8 @@ fn range_at(space: u64, s: &[u8]) -> Found
 
 // The row of an element, by its head and its contents: every one is read, or refused, here.
 fn any_element(space: u64, s: &[u8]) -> Found
-    ensures result_value { found_seen s.now result ≡ spec.address_at (bits_of (width_of space)) s.now }
-    ensures found_in { FoundIn space (length s.now) result }
+    ensures seen { found_seen s.now result ≡ spec.address_at (bits_of (width_of space)) s.now }
+    ensures inside { FoundIn space (length s.now) result }
 {
     if 0 < s.len() {
         if s[0] == tags::BIT_STRING {
@@ -187,8 +187,8 @@ fn any_element(space: u64, s: &[u8]) -> Found
 
 // Returns the row of an element of an address family, and how many octets it took.
 pub fn element(space: u64, s: &[u8]) -> Found
-    ensures result_value { found_seen s.now result ≡ spec.address_at (bits_of (width_of space)) s.now }
-    ensures found_in { FoundIn space (length s.now) result }
+    ensures seen { found_seen s.now result ≡ spec.address_at (bits_of (width_of space)) s.now }
+    ensures inside { FoundIn space (length s.now) result }
 {
     let short = brief_addresses::brief_row(spaces::width(space), s);
     if 0 < short.taken {

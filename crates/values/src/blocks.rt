@@ -55,8 +55,8 @@ fn space_of(contents: &[u8]) -> SpaceOf
 
 // The OCTET STRING that s begins with; its space is at least `least`.
 fn space_at(s: &[u8], least: u64) -> SpaceAt
-    ensures result_value { space_seen s.now result ≡ spec.space_at least s.now }
-    ensures space_in { SpaceIn (length s.now) result }
+    ensures seen { space_seen s.now result ≡ spec.space_at least s.now }
+    ensures inside { SpaceIn (length s.now) result }
 {
     match heads::open(tags::OCTET_STRING, s) {
         Opening::Bad(refusal) => SpaceAt::Bad(refusal, 0),

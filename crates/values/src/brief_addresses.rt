@@ -140,8 +140,8 @@ fn brief_prefix(width: Width, s: &[u8]) -> BriefRow
 
 // Whether min, of n bits, and max, of m bits, are sure to be the one form of a range. Most ranges are; `addresses::range_row` judges any other.
 fn is_range(n: u32, min: u64, m: u32, max: u64) -> bool
-    requires leading { Leading n min }
-    requires leading_2 { Leading m max }
+    requires min_leads { Leading n min }
+    requires max_leads { Leading m max }
     ensures { result ≡ true → IsRange n min m max }
 {
     // Min ends in a one.

@@ -31,8 +31,8 @@ pub enum Counted {
 
 // The element that s begins with.
 fn element(space: Space, s: &[u8]) -> Found
-    ensures result_value { found_seen s.now result ≡ spec.element_at space s.now }
-    ensures found_in { FoundIn (space_number space) (length s.now) result }
+    ensures seen { found_seen s.now result ≡ spec.element_at space s.now }
+    ensures inside { FoundIn (space_number space) (length s.now) result }
 {
     match space {
         Space::Addresses(number) => addresses::element(number, s),

@@ -102,8 +102,8 @@ pub enum IntegerAt {
 
 // The INTEGER that s begins with, by its head and its contents: whatever the cause, one that is none is refusal 4.
 fn any_integer_at(s: &[u8]) -> IntegerAt
-    ensures result_value { integer_seen s.now result ≡ spec.integer_at s.now }
-    ensures integer_in { IntegerIn (length s.now) result }
+    ensures seen { integer_seen s.now result ≡ spec.integer_at s.now }
+    ensures inside { IntegerIn (length s.now) result }
 {
     match heads::open(tags::INTEGER, s) {
         Opening::Bad(refusal) => IntegerAt::Bad(refusal, 0),
@@ -159,8 +159,8 @@ fn brief_number(s: &[u8]) -> Brief
 
 // The INTEGER that s begins with.
 fn integer_at(s: &[u8]) -> IntegerAt
-    ensures result_value { integer_seen s.now result ≡ spec.integer_at s.now }
-    ensures integer_in { IntegerIn (length s.now) result }
+    ensures seen { integer_seen s.now result ≡ spec.integer_at s.now }
+    ensures inside { IntegerIn (length s.now) result }
 {
     let short = brief_number(s);
     if 0 < short.taken {
@@ -178,8 +178,8 @@ pub enum Pair {
 
 // The contents of a range: min, then max, then nothing. Not by `integer_at`: where both are brief, `pair_at` has taken them.
 fn pair_of(s: &[u8]) -> Pair
-    ensures result_value { pair_seen result ≡ spec.pair_of s.now }
-    ensures pair_in { PairIn (length s.now) result }
+    ensures seen { pair_seen result ≡ spec.pair_of s.now }
+    ensures inside { PairIn (length s.now) result }
 {
     match any_integer_at(s) {
         IntegerAt::Bad(refusal, at) => Pair::Bad(refusal, at),
@@ -207,8 +207,8 @@ pub enum PairAt {
 
 // The range that s begins with, by its head and its contents.
 fn any_pair_at(s: &[u8]) -> PairAt
-    ensures result_value { pair_at_seen s.now result ≡ spec.pair_at s.now }
-    ensures pair_at_in { PairAtIn (length s.now) result }
+    ensures seen { pair_at_seen s.now result ≡ spec.pair_at s.now }
+    ensures inside { PairAtIn (length s.now) result }
 {
     match heads::open(tags::SEQUENCE, s) {
         Opening::Bad(refusal) => PairAt::Bad(refusal, 0),
@@ -221,8 +221,8 @@ fn any_pair_at(s: &[u8]) -> PairAt
 
 // The range that s begins with. Two brief INTEGERs have fewer than 128 octets: if they are the contents, the length is one octet, and the head need not be read.
 fn pair_at(s: &[u8]) -> PairAt
-    ensures result_value { pair_at_seen s.now result ≡ spec.pair_at s.now }
-    ensures pair_at_in { PairAtIn (length s.now) result }
+    ensures seen { pair_at_seen s.now result ≡ spec.pair_at s.now }
+    ensures inside { PairAtIn (length s.now) result }
 {
     if 2 <= s.len() {
         if s[0] == tags::SEQUENCE {
@@ -245,8 +245,8 @@ fn pair_at(s: &[u8]) -> PairAt
 
 // The AS number that s begins with.
 fn as_number_at(s: &[u8]) -> Found
-    ensures result_value { found_seen s.now result ≡ spec.number_at s.now }
-    ensures found_in { FoundIn as_numbers (length s.now) result }
+    ensures seen { found_seen s.now result ≡ spec.number_at s.now }
+    ensures inside { FoundIn as_numbers (length s.now) result }
 {
     match integer_at(s) {
         IntegerAt::Bad(refusal, at) => Found::Bad(refusal, at),
@@ -256,8 +256,8 @@ fn as_number_at(s: &[u8]) -> Found
 
 // A range of AS numbers that s begins with.
 fn as_range_at(s: &[u8]) -> Found
-    ensures result_value { found_seen s.now result ≡ spec.range_at s.now }
-    ensures found_in { FoundIn as_numbers (length s.now) result }
+    ensures seen { found_seen s.now result ≡ spec.range_at s.now }
+    ensures inside { FoundIn as_numbers (length s.now) result }
 {
     match pair_at(s) {
         PairAt::Bad(refusal, at) => Found::Bad(refusal, at),
@@ -270,8 +270,8 @@ fn as_range_at(s: &[u8]) -> Found
 
 // Returns the row of an element of a list of AS numbers, and how many octets it took.
 pub fn as_element(s: &[u8]) -> Found
-    ensures result_value { found_seen s.now result ≡ spec.id_at s.now }
-    ensures found_in { FoundIn as_numbers (length s.now) result }
+    ensures seen { found_seen s.now result ≡ spec.id_at s.now }
+    ensures inside { FoundIn as_numbers (length s.now) result }
 {
     if 0 < s.len() {
         if s[0] == tags::INTEGER {
@@ -283,8 +283,8 @@ pub fn as_element(s: &[u8]) -> Found
 
 // The routing domain identifier that s begins with: by its head and its contents, as such are hardly ever used, and need not be fast.
 fn rdi_number_at(s: &[u8]) -> Found
-    ensures result_value { found_seen s.now result ≡ spec.number_at s.now }
-    ensures found_in { FoundIn routing_domains (length s.now) result }
+    ensures seen { found_seen s.now result ≡ spec.number_at s.now }
+    ensures inside { FoundIn routing_domains (length s.now) result }
 {
     match any_integer_at(s) {
         IntegerAt::Bad(refusal, at) => Found::Bad(refusal, at),
@@ -294,8 +294,8 @@ fn rdi_number_at(s: &[u8]) -> Found
 
 // A range of routing domain identifiers that s begins with.
 fn rdi_range_at(s: &[u8]) -> Found
-    ensures result_value { found_seen s.now result ≡ spec.range_at s.now }
-    ensures found_in { FoundIn routing_domains (length s.now) result }
+    ensures seen { found_seen s.now result ≡ spec.range_at s.now }
+    ensures inside { FoundIn routing_domains (length s.now) result }
 {
     match any_pair_at(s) {
         PairAt::Bad(refusal, at) => Found::Bad(refusal, at),
@@ -308,8 +308,8 @@ fn rdi_range_at(s: &[u8]) -> Found
 
 // Returns the row of an element of a list of routing domain identifiers, and how many octets it took.
 pub fn rdi_element(s: &[u8]) -> Found
-    ensures result_value { found_seen s.now result ≡ spec.id_at s.now }
-    ensures found_in { FoundIn routing_domains (length s.now) result }
+    ensures seen { found_seen s.now result ≡ spec.id_at s.now }
+    ensures inside { FoundIn routing_domains (length s.now) result }
 {
     if 0 < s.len() {
         if s[0] == tags::INTEGER {

@@ -28,9 +28,9 @@ pub fn has_octets(refusal: Refusal) -> bool
 // Returns the octets at fault of one certificate's two values, borrowed from the value that was refused; the empty part at the start of the IP value where there are none.
 // The table is left as by `read_both`.
 pub fn fault<'a>(ip: &'a [u8], ids: &'a [u8], table: &mut [u64]) -> &'a [u8]
-    ensures result_value { result.now ≡ fault_octets ip.now ids.now table.old }
-    ensures ref_ptr_value { result.ref_ptr ≡ fault_pointer ip.entry.ref_ptr ids.entry.ref_ptr ip.now ids.now table.old }
-    ensures table_after { table.new ≡ (read_both ip.now ids.now table.old).1 }
+    ensures octets { result.now ≡ fault_octets ip.now ids.now table.old }
+    ensures pointer { result.ref_ptr ≡ fault_pointer ip.entry.ref_ptr ids.entry.ref_ptr ip.now ids.now table.old }
+    ensures left { table.new ≡ (read_both ip.now ids.now table.old).1 }
 {
     let reading = readings::read_both(ip, ids, table);
     match reading {

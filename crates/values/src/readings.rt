@@ -65,8 +65,8 @@ fn answer(extension: u64, counted: Counted, table: &mut [u64]) -> Reading
 // Reads an IPAddrBlocks value as a step of a path: its rows come first in the table.
 // Returns the rows so far, or the refusal; on a refusal but 16 the first 3,072 numbers of the table are zero.
 pub fn step_ip(value: &[u8], table: &mut [u64]) -> Reading
-    ensures table_after { (result, table.new) ≡ spec.step_ip value.now table.old }
-    ensures ip_in { IpIn (length value.now) result }
+    ensures reply { (result, table.new) ≡ spec.step_ip value.now table.old }
+    ensures inside { IpIn (length value.now) result }
 {
     if table.len() < rows::NUMBERS {
         return refuse(Refusal::TableShort, 0, 0);
@@ -82,8 +82,8 @@ pub fn step_ip(value: &[u8], table: &mut [u64]) -> Reading
 // Reads an ASIdentifiers value as a step of a path: "The AS value's rows are counted on from the IP rows", of which there are `count`.
 // Returns the rows so far, or the refusal; on a refusal but 16 the first 3,072 numbers of the table are zero.
 pub fn step_as(value: &[u8], count: usize, table: &mut [u64]) -> Reading
-    ensures table_after { (result, table.new) ≡ spec.step_as value.now count table.old }
-    ensures as_in { AsIn (length value.now) result }
+    ensures reply { (result, table.new) ≡ spec.step_as value.now count table.old }
+    ensures inside { AsIn (length value.now) result }
 {
     if table.len() < rows::NUMBERS {
         return refuse(Refusal::TableShort, 0, 0);
@@ -128,8 +128,8 @@ pub fn read_as(value: &[u8], table: &mut [u64]) -> Reading
 
 // After the IP value's rows: the AS value's are counted on; an empty value is absent.
 fn after_ip(count: usize, ids: &[u8], table: &mut [u64]) -> Reading
-    ensures table_after { (result, table.new) ≡ spec.on_as ids.now table.old (Reading.Rows count) }
-    ensures as_in { AsIn (length ids.now) result }
+    ensures reply { (result, table.new) ≡ spec.on_as ids.now table.old (Reading.Rows count) }
+    ensures inside { AsIn (length ids.now) result }
 {
     if ids.len() == 0 {
         return Reading::Rows(count);
@@ -140,8 +140,8 @@ fn after_ip(count: usize, ids: &[u8], table: &mut [u64]) -> Reading
 // Reads one certificate's two values as a step of a path: IP rows, then AS rows; an empty value is absent.
 // Returns the rows, or the refusal; on a refusal but 16 the first 3,072 numbers of the table are zero.
 pub fn step_both(ip: &[u8], ids: &[u8], table: &mut [u64]) -> Reading
-    ensures table_after { (result, table.new) ≡ spec.step_both ip.now ids.now table.old }
-    ensures both_in { BothIn (length ip.now) (length ids.now) result }
+    ensures reply { (result, table.new) ≡ spec.step_both ip.now ids.now table.old }
+    ensures inside { BothIn (length ip.now) (length ids.now) result }
 {
     if ip.len() == 0 {
         return after_ip(0, ids, table);
@@ -156,8 +156,8 @@ pub fn step_both(ip: &[u8], ids: &[u8], table: &mut [u64]) -> Reading
 // Reads one certificate's two values: IP rows, then AS rows; an empty value is absent.
 // Returns the rows, or the refusal; but on 16 the first 3,072 numbers of the table are the rows and then zeros.
 pub fn read_both(ip: &[u8], ids: &[u8], table: &mut [u64]) -> Reading
-    ensures table_after { (result, table.new) ≡ spec.read_both ip.now ids.now table.old }
-    ensures both_in { BothIn (length ip.now) (length ids.now) result }
+    ensures reply { (result, table.new) ≡ spec.read_both ip.now ids.now table.old }
+    ensures inside { BothIn (length ip.now) (length ids.now) result }
 {
     if table.len() < rows::NUMBERS {
         return refuse(Refusal::TableShort, 0, 0);

@@ -2,7 +2,7 @@
 --     rows_grouped      the rows of the families that rows are: the same rows
 --     grouped_rows      the families of the rows that families have: the same families
 --     rows_valid, valid_rows      rows that a table may have are families that a value may have, and back
-use mathlib.Core.Path.{◌≡◌, refl, sym, ap, ◌∙◌}
+use mathlib.Core.Path.{◌≡◌, refl, sym, ap, subst, ◌∙◌}
 use mathlib.Core.List.{List, [], ◌∷◌, ◌++◌}
 use mathlib.Core.Bool.{Bool, true, false}
 use mathlib.Core.Logic.{◌⊎◌, inl, inr}
@@ -40,7 +40,7 @@ before_rows a x (f ∷ fs) = go f.0 f.1
   where
     same : (b : ℕ) (rs : List (ℕ × ℕ)) (t : Bool) → eqb a b ≡ t
         → blocks_rows (pick t ((a, listed (x ∷ rs)) ∷ fs) ((a, listed (x ∷ [])) ∷ (b, listed rs) ∷ fs)) ≡ listed_row a x ∷ (listed_rows b rs ++ blocks_rows fs)
-    same b rs true e = rw (eqb-true a b e)
+    same b rs true e = subst (λ (z : ℕ). listed_row a x ∷ (listed_rows a rs ++ blocks_rows fs) ≡ listed_row a x ∷ (listed_rows z rs ++ blocks_rows fs)) (eqb-true a b e) refl
     same b rs false e = refl
 
     go : (b : ℕ) (c : Choice) → blocks_rows (joined a x b c fs) ≡ listed_row a x ∷ (choice_rows b c ++ blocks_rows fs)
@@ -182,7 +182,7 @@ module _ (kind : ℕ) where
         × Begins a x.0 (pick t ((a, listed (x ∷ r ∷ rs)) ∷ fs) ((a, listed (x ∷ [])) ∷ (s, listed (r ∷ rs)) ∷ fs))
     joins s r rs fs true e h u =
         let q : a ≡ s = eqb-true a s e in
-        let (o, l, k, t) = rw (← q) at h in
+        let (o, l, k, t) = subst (λ (z : ℕ). Ordered kind 0 ((z, listed (r ∷ rs)) ∷ fs)) (sym q) h in
         ((own, omega arith, (omega arith, (fits, omega arith, (k.1.0, upto_same u q, k.1.2))), t), same_space refl (le_refl _))
     joins s r rs fs false e h u = later s (listed (r ∷ rs)) fs (upto_other u (eqb-false a s e)) h
 
