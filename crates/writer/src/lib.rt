@@ -9,9 +9,9 @@ ghost use Rattle.std.specs.Prelude.{◌≡◌, ◌+◌, ◌^◌, ◌<◌, ◌≤
 ghost use Rattle.number.specs.Halves.{whole, bits as bits_of};
 ghost use Rattle.table.specs.Rows.{seen};
 ghost use Rattle.table.specs.Spaces.{ip_kind, kind_of};
-ghost use Rattle.der.specs.Tags.{BIT-STRING, INTEGER, OCTET-STRING};
+ghost use Rattle.der.specs.Tags.{BIT_STRING, INTEGER, OCTET_STRING};
 ghost use Rattle.der.specs.Head.{element};
-ghost use Rattle.der.specs.Bits.{bits_of as bitOctets};
+ghost use Rattle.der.specs.Bits.{bits_of as bit_octets};
 ghost use Rattle.der.specs.Integer.{integer_octets};
 ghost use Rattle.der.specs.Written.{written};
 ghost use Rattle.values.specs.Forms.{range, form_of};
@@ -105,8 +105,8 @@ fn row_size(kind: u64, row: Row) -> usize
 
 // Writes a BIT STRING of the first bits of a number at a place.
 fn put_bits(out: &mut [u8], at: usize, width: Width, count: u32, n: Halves)
-    requires { (count ≤ bits_of width) × (whole n < 2 ^ bits_of width) × (at + length (element BIT-STRING (bitOctets (bits_of width) count (whole n))) ≤ length out.old) }
-    ensures { out.new ≡ written out.old at (element BIT-STRING (bitOctets (bits_of width) count (whole n))) }
+    requires { (count ≤ bits_of width) × (whole n < 2 ^ bits_of width) × (at + length (element BIT_STRING (bit_octets (bits_of width) count (whole n))) ≤ length out.old) }
+    ensures { out.new ≡ written out.old at (element BIT_STRING (bit_octets (bits_of width) count (whole n))) }
 {
     let size = bits::octets(count);
     heads::put_head(out, at, tags::BIT_STRING, size);
@@ -214,8 +214,8 @@ fn octet(x: u64) -> u8
 
 // Writes an addressFamily at a place.
 fn put_space(out: &mut [u8], at: usize, space: u64)
-    requires { (kind_of space ≡ ip_kind) × (at + length (element OCTET-STRING (space_octets space)) ≤ length out.old) }
-    ensures { out.new ≡ written out.old at (element OCTET-STRING (space_octets space)) }
+    requires { (kind_of space ≡ ip_kind) × (at + length (element OCTET_STRING (space_octets space)) ≤ length out.old) }
+    ensures { out.new ≡ written out.old at (element OCTET_STRING (space_octets space)) }
 {
     let afi = octet(space / 1024);
     heads::put_head(out, at, tags::OCTET_STRING, space_size(space));

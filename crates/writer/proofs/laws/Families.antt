@@ -183,7 +183,7 @@ module _ (kind : ℕ) (one : kind ≡ mixed_kind → ⊥) where
             → tail kind (onto r ((b, c) ∷ gs)) ≡ own kind r ++ (closing kind (open_of kind ((b, c) ∷ gs)) r ++ tail kind ((b, c) ∷ gs))
         meets h b inherit gs u d q = rw (h, ne_eqb r.space 0 (not_zero kind r.space one e)) (alone ((b, inherit) ∷ gs))
         meets h b (listed rs) gs u true q =
-            rw (h, q, eqb-true r.space b q) (append_assoc (element_octets (space_for kind b) (r.low, r.high)) (elements_of kind b rs) (groups kind gs))
+            rw (h, q) (append_assoc (element_octets (space_for kind r.space) (r.low, r.high)) (elements_of kind r.space rs) (groups kind gs) ∙ ap (λ (z : ℕ). row_octets kind r ++ (elements_of kind z rs ++ groups kind gs)) (eqb-true r.space b q))
         meets h b (listed rs) gs u false q = rw (h, q) (alone ((b, listed rs) ∷ gs) ∙ rw (split ((b, listed rs) ∷ gs) (first u)))
 
         go : (d : Bool) → eqb r.inherit 1 ≡ d → (fs : Families) → Owned kind fs → tail kind (onto r fs) ≡ own kind r ++ (closing kind (open_of kind fs) r ++ tail kind fs)
@@ -206,7 +206,8 @@ module _ (kind : ℕ) (one : kind ≡ mixed_kind → ⊥) where
         meets : eqb r.inherit 1 ≡ false → (b : ℕ) (c : Choice) (gs : Families) → (d : Bool) → eqb r.space b ≡ d → open_of kind (onto r ((b, c) ∷ gs)) ≡ onward (open_of kind ((b, c) ∷ gs)) r (length (own kind r))
         meets h b inherit gs d q = rw (h, ne_eqb r.space 0 (not_zero kind r.space one e)) (sized _ _ alone)
         meets h b (listed rs) gs true q =
-            rw (h, q) (sized _ _ (rw (eqb-true r.space b q) (omega (arith, length-append (element_octets (space_for kind b) (r.low, r.high)) (elements_of kind b rs)))))
+            let k : length (elements_of kind r.space rs) ≡ length (elements_of kind b rs) = ap (λ (z : ℕ). length (elements_of kind z rs)) (eqb-true r.space b q) in
+            rw (h, q) (sized _ _ (omega (arith, length-append (element_octets (space_for kind r.space) (r.low, r.high)) (elements_of kind r.space rs))))
         meets h b (listed rs) gs false q = rw (h, q) (sized _ _ alone)
 
         go : (d : Bool) → eqb r.inherit 1 ≡ d → (fs : Families) → open_of kind (onto r fs) ≡ onward (open_of kind fs) r (length (own kind r))

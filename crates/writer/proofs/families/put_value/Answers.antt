@@ -1,0 +1,10 @@
+-- `writer::families::put_value` meets its contract. Assumes nothing.
+use borrow.Author.Rules.{rules}
+use Rattle.writer.proofs.Replies.{value_short, value_done}
+use Rattle.writer.proofs.families.put_value.Goals as goal
+
+pub returns-then-out-all : goal.returns-then-out-all
+returns-then-out-all c = search (value_short, rules)
+
+pub returns : goal.returns
+returns c = value_done c.args.kind c.args.table.now c.args.out.now c.size-inner.ensures.0 c.element_size-all.ensures c.put.result c.if-out-all.false c.size-inner.ensures.1 c.put_head.ensures c.put.ensures
