@@ -1,5 +1,5 @@
 -- The contents of a BIT STRING that begins an address of w bits, w a multiple of 8. An address is a number below 2 ^ w.
-use Rattle.std.specs.Prelude.{ℕ, ◌+◌, ◌-◌, ◌*◌, ◌/◌, ◌%◌, ◌^◌, List, [], ◌∷◌, true, false, length, get_or, drop, ltb, eqb}
+use Rattle.std.specs.Prelude.{ℕ, ◌+◌, ◌-◌, ◌*◌, ◌/◌, ◌%◌, ◌^◌, List, ◌∷◌, true, false, length, get_or, drop, ltb, eqb}
 use Rattle.number.specs.Tests.{pick}
 use Rattle.number.specs.Halves.{bits}
 use Rattle.number.specs.Octets.{value, octets}

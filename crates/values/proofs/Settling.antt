@@ -13,7 +13,7 @@ use Rattle.table.specs.Sizes.{table_numbers}
 use Rattle.table.specs.Rows.{Row, cleared}
 use Rattle.der.specs.Parts.{Contents, is, isnt}
 use Rattle.values.specs.Limits.{ip_extension, as_extension, max_octets}
-use Rattle.values.specs.Faults.{Fault, at}
+use Rattle.values.specs.Faults.{Fault}
 use Rattle.values.specs.Blocks.{read_blocks}
 use Rattle.values.specs.Identifiers.{read_identifiers}
 use Rattle.values.specs.Tables.{tabled, blocks_rows, identifiers_rows, ip_rows, as_rows}

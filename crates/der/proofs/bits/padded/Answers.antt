@@ -1,6 +1,5 @@
 -- `der::bits::padded` meets its contract. Assumes nothing.
 use borrow.Author.Rules.{rules}
-use Prim.Native.Nat.{◌-◌}
 use Rattle.number.proofs.Spelling.{start, mul_fits, sum_fits}
 use Rattle.der.proofs.Padding.{pad_turn, pad_done}
 use Rattle.der.proofs.bits.padded.Goals as goal

@@ -1,8 +1,5 @@
 -- `der::bits::put` meets its contract. Assumes nothing.
-use mathlib.Core.Path.{◌∙◌}
 use borrow.Author.Rules.{rules}
-use native.Mathlib.Omega.{arith}
-use lib.ListN.{length-set}
 use Rattle.der.proofs.Pasting.{many_bits, bits_past, bits_room, bits_put}
 use Rattle.der.proofs.bits.put.Goals as goal
 

@@ -1,6 +1,5 @@
 -- `der::bits::read` meets its contract. Assumes nothing.
 use borrow.Author.Rules.{rules}
-use native.Mathlib.Omega.{arith}
 use Prim.Native.Nat.{ℕ}
 use Rattle.der.proofs.Beginnings.{refused_empty, refused_initial, refused_long, refused_few, refused_wide, refused_set, taken}
 use Rattle.der.proofs.bits.read.Goals as goal

@@ -1,6 +1,5 @@
 -- `der::integers::put` meets its contract. Assumes nothing.
 use borrow.Author.Rules.{rules}
-use native.Mathlib.Omega.{arith}
 use Rattle.der.proofs.Pasting.{few_octets, integer_put}
 use Rattle.der.proofs.integers.put.Goals as goal
 

@@ -1,6 +1,5 @@
 -- `der::writing::put` meets its contract. Assumes nothing.
 use borrow.Author.Rules.{rules}
-use Prim.Native.Nat.{◌-◌}
 use Rattle.der.proofs.Pasting.{paste_start, paste_turn, pasted, past_end, past_room}
 use Rattle.der.proofs.writing.put.Goals as goal
 

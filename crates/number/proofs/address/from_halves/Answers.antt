@@ -1,6 +1,5 @@
 -- `number::address::from_halves` meets its contract. Assumes nothing.
 use borrow.Author.Rules.{rules}
-use Prim.Native.Nat.{◌-◌}
 use Rattle.number.proofs.Sixteen.{none_stored, one_stored, all_stored}
 use Rattle.number.proofs.address.from_halves.Goals as goal
 

@@ -1,6 +1,5 @@
 -- `number::address::spelled` meets its contract. Assumes nothing.
 use borrow.Author.Rules.{rules}
-use Prim.Native.Nat.{◌-◌}
 use Rattle.number.proofs.Spelling.{start, mul_fits, sum_fits, turn, at_eight, at_end}
 use Rattle.number.proofs.address.spelled.Goals as goal
 

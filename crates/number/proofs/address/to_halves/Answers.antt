@@ -1,6 +1,5 @@
 -- `number::address::to_halves` meets its contract. Assumes nothing.
 use borrow.Author.Rules.{rules}
-use native.Mathlib.Omega.{arith}
 use Rattle.number.proofs.Spelling.{array_octets, narrow, broad}
 use Rattle.number.proofs.address.to_halves.Goals as goal
 

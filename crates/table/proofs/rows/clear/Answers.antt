@@ -1,6 +1,5 @@
 -- `table::rows::clear` meets its contract. Assumes nothing.
 use borrow.Author.Rules.{rules}
-use Prim.Native.Nat.{◌-◌}
 use Rattle.table.proofs.Clears.{clear_start, clear_turn, clear_count, clear_all}
 use Rattle.table.proofs.rows.clear.Goals as goal
 

@@ -1,7 +1,6 @@
 -- `table::tables::is_table` meets its contract. Assumes nothing.
 use borrow.Author.Rules.{rules}
 use borrow.Author.Tests.{not-true, not-false}
-use Prim.Native.Nat.{◌-◌}
 use Rattle.number.proofs.Picks.{picks}
 use Rattle.table.specs.Tables.{is_table}
 use Rattle.table.proofs.Listing.{list_start, list_end, list_proper, list_follows, list_turn}

@@ -1,6 +1,5 @@
 -- `values::addresses::any_element` meets its contract. Assumes nothing.
 use borrow.Author.Rules.{rules}
-use mathlib.Core.Logic.{⊎_elim}
 use Rattle.number.proofs.Picks.{picks}
 use Rattle.values.specs.Addresses.{address_at}
 use Rattle.values.proofs.Joins.{no_tag}

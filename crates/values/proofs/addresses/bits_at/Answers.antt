@@ -1,6 +1,5 @@
 -- `values::addresses::bits_at` meets its contract. Assumes nothing.
 use borrow.Author.Rules.{rules}
-use native.Mathlib.Omega.{arith}
 use Rattle.number.specs.Octets.{Octets}
 use Rattle.values.proofs.Joins.{clauses, refused, tag_order, tag_inside}
 use Rattle.values.proofs.AddressReads.{strung, bits_refused, bits_isnt, bits_took}

@@ -1,7 +1,6 @@
 -- `values::addresses::range_row` meets its contract. Assumes nothing.
 use borrow.Author.Rules.{rules}
 use borrow.Author.Tests.{not-true, not-false}
-use native.Mathlib.Omega.{arith}
 use Rattle.values.proofs.AddressReads.{ranged_order, ranged_min, ranged_max, ranged_prefix, ranged_row}
 use Rattle.values.proofs.addresses.range_row.Goals as goal
 

@@ -1,7 +1,6 @@
 -- `values::brief_addresses::brief_bits` meets its contract. Assumes nothing.
 use borrow.Author.Rules.{rules}
 use borrow.Author.Tests.{not-false}
-use native.Mathlib.Omega.{arith}
 use Rattle.number.specs.Octets.{Octets}
 use Rattle.values.proofs.BriefReads.{brief_long, brief_second, brief_third}
 use Rattle.values.proofs.BitReads.{none_taken, string_some, string_over, string_count, string_unit, string_divides, string_took}

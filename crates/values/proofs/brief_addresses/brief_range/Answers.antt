@@ -1,6 +1,5 @@
 -- `values::brief_addresses::brief_range` meets its contract. Assumes nothing.
 use borrow.Author.Rules.{rules}
-use borrow.Author.Tests.{not-false}
 use Rattle.values.proofs.BriefRows.{no_span, some_taken, brief_inside, brief_leading, brief_last, both_fit, both_span}
 use Rattle.values.proofs.brief_addresses.brief_range.Goals as goal
 

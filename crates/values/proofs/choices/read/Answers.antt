@@ -1,5 +1,4 @@
 -- `values::choices::read` meets its contract. Assumes nothing.
-use mathlib.Core.Logic.{⊎_elim}
 use borrow.Author.Rules.{rules}
 use native.Mathlib.Omega.{arith}
 use Rattle.der.specs.Tags.{NULL}

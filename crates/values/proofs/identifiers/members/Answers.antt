@@ -1,5 +1,4 @@
 -- `values::identifiers::members` meets its contract. Assumes nothing.
-use mathlib.Core.Logic.{⊎_elim}
 use native.Mathlib.Omega.{arith}
 use Rattle.values.specs.Limits.{ASNUM}
 use Rattle.values.proofs.MemberReads.{members_first, members_last}

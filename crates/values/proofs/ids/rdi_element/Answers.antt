@@ -1,6 +1,5 @@
 -- `values::ids::rdi_element` meets its contract. Assumes nothing.
 use borrow.Author.Rules.{rules}
-use mathlib.Core.Logic.{⊎_elim}
 use Rattle.number.proofs.Picks.{picks}
 use Rattle.values.specs.Ids.{id_at}
 use Rattle.values.proofs.Joins.{no_tag}
