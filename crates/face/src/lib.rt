@@ -158,8 +158,7 @@ fn short() -> u64
 }
 
 // Reads an IPAddrBlocks value into the table. Returns the number of the refusal, or 0.
-#[unsafe(no_mangle)]
-pub extern "C" fn rch_read_ip(value: &[u8], table: &mut [u64], reply: &mut [u64]) -> u64
+pub fn rch_read_ip(value: &[u8], table: &mut [u64], reply: &mut [u64]) -> u64
     ensures { (result, table.new, reply.new) ≡ spec.read_ip_face value.now table.old reply.old }
 {
     if reply.len() < NUMBERS {
@@ -170,8 +169,7 @@ pub extern "C" fn rch_read_ip(value: &[u8], table: &mut [u64], reply: &mut [u64]
 }
 
 // Reads an ASIdentifiers value into the table. Returns the number of the refusal, or 0.
-#[unsafe(no_mangle)]
-pub extern "C" fn rch_read_as(value: &[u8], table: &mut [u64], reply: &mut [u64]) -> u64
+pub fn rch_read_as(value: &[u8], table: &mut [u64], reply: &mut [u64]) -> u64
     ensures { (result, table.new, reply.new) ≡ spec.read_as_face value.now table.old reply.old }
 {
     if reply.len() < NUMBERS {
@@ -182,8 +180,7 @@ pub extern "C" fn rch_read_as(value: &[u8], table: &mut [u64], reply: &mut [u64]
 }
 
 // Writes the value of rows: kind 1 IPAddrBlocks, 2 ASIdentifiers. Returns the number of the refusal, or 0.
-#[unsafe(no_mangle)]
-pub extern "C" fn rch_write(kind: u64, rows: &[u64], out: &mut [u8], reply: &mut [u64]) -> u64
+pub fn rch_write(kind: u64, rows: &[u64], out: &mut [u8], reply: &mut [u64]) -> u64
     ensures { (result, out.new, reply.new) ≡ spec.write_face kind rows.now out.old reply.old }
 {
     if reply.len() < NUMBERS {
@@ -194,13 +191,7 @@ pub extern "C" fn rch_write(kind: u64, rows: &[u64], out: &mut [u8], reply: &mut
 }
 
 // Checks the path of a bundle; the last certificate's rows are left in the first table. Returns the number of the refusal, or 0.
-#[unsafe(no_mangle)]
-pub extern "C" fn rch_path(
-    bundle: &[u8],
-    first: &mut [u64],
-    second: &mut [u64],
-    reply: &mut [u64],
-) -> u64
+pub fn rch_path(bundle: &[u8], first: &mut [u64], second: &mut [u64], reply: &mut [u64]) -> u64
     ensures { (result, (first.new, second.new), reply.new) ≡ spec.path_face bundle.now first.old second.old reply.old }
 {
     if reply.len() < NUMBERS {
@@ -211,8 +202,7 @@ pub extern "C" fn rch_path(
 }
 
 // Reads one certificate's two values, and says which octets are at fault. Returns the number of the refusal, or 0.
-#[unsafe(no_mangle)]
-pub extern "C" fn rch_fault(ip: &[u8], ids: &[u8], table: &mut [u64], reply: &mut [u64]) -> u64
+pub fn rch_fault(ip: &[u8], ids: &[u8], table: &mut [u64], reply: &mut [u64]) -> u64
     ensures { (result, table.new, reply.new) ≡ spec.fault_face ip.now ids.now table.old reply.old }
 {
     if reply.len() < NUMBERS {
