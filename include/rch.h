@@ -6,7 +6,7 @@
  * Each is proved to give exactly the reply and to leave exactly the buffers that its text says.
  *
  * Buffers must not overlap, and a pointer with a length of 0 must still be a valid, aligned pointer (not NULL).
- * Link with libface.a, which `rt staticlib face` writes to target/staticlib.
+ * Link with libface.a, which `tools/staticlib` writes to target/staticlib.
  *
  * A row of a table is six 64-bit numbers:
  *     space, inherit mark (0 or 1), low (upper half, lower half), high (upper half, lower half)

@@ -1,10 +1,10 @@
 #!/usr/bin/env python3
 """openssl: values that OpenSSL writes are read, and written back with equal octets.
 
-    rt check cases && python3 tools/openssl.py [CERTIFICATES [SEED]]
+    (cd crates/cases && rt run >/dev/null) && python3 tools/openssl.py [CERTIFICATES [SEED]]
 
 It makes certificates with the `openssl` program (extensions sbgp-ipAddrBlock and sbgp-autonomousSysNum, with random ranges), takes the two
-extension values out of each, reads them with the program `cases` (target/bin/cases) and writes the rows that were read back.
+extension values out of each, reads them with the program `cases` (crates/cases/out/cases) and writes the rows that were read back.
 OpenSSL takes every trailing one bit from max and keeps none, so a range whose max has no one bit left is refused with 9 (request (i) of
 document 02 will change the rule). Such values are counted apart; every other value must come back with equal octets.
 """
@@ -17,7 +17,7 @@ import sys
 import tempfile
 
 TOP = pathlib.Path(__file__).resolve().parent.parent
-CASES = TOP / "target" / "bin" / "cases"
+CASES = TOP / "crates" / "cases" / "out" / "cases"
 CONFIG = """[req]
 distinguished_name=dn
 x509_extensions=ext

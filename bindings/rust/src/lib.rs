@@ -6,7 +6,7 @@
 //!
 //! # Linking
 //!
-//! The functions are in `libface.a`, which `rt staticlib face` writes to `target/staticlib`. There
+//! The functions are in `libface.a`, which `tools/staticlib` writes to `target/staticlib`. There
 //! is no build script: say where that folder is, for example
 //!
 //! ```text
