@@ -102,7 +102,7 @@ fn put_row(own: &mut [u64], end: usize, issuer: &[u64], m: usize, row: Row) -> u
 // Writes the rows after inheritance up to row `total`, from the last to the first: no row is written over before it is read.
 fn put_all(own: &mut [u64], n: usize, issuer: &[u64], m: usize, total: usize)
     requires filling { spec.Filling (rows_of m issuer.now) own.old n total }
-    requires m_bound { m ≤ room issuer.now }
+    requires there { m ≤ room issuer.now }
     ensures { own.new ≡ with_rows own.old 0 (spec.resolved (rows_of m issuer.now) (rows_of n own.old)) }
 {
     let mut k = n;

@@ -14,7 +14,7 @@ use Rattle.table.specs.Spaces.{ip_kind, as_kind}
 use Rattle.table.specs.Rows.{Row}
 use Rattle.der.specs.Parts.{is, isnt}
 use Rattle.values.specs.declared.readings.Refused.{Refused}
-use Rattle.path.specs.Certificate.{Step, onward, certificate}
+use Rattle.path.specs.Certificate.{Step, onward}
 use Rattle.path.specs.Paths.{descent, below}
 use Rattle.path.specs.Demand.{Certificate, Below, Of, Higher, Present, Inheriting, Holding, Right, rows_at, Proper, value_of, values_of, Few, pairs_at, pairs_most, line_of, last, Fault, First}
 use Rattle.path.proofs.laws.Walks.{pairs_few}

@@ -68,6 +68,7 @@ module _ {s n : ℕ} (rest : List Row) where
 
 module _ (issuer : List Row) (s n : ℕ) where
   keeps_holds : (rows : List Row) → Keeps issuer s n rows → Holds s n (resolved issuer rows)
+  keeps_holds [] k = elim k [ ]
   keeps_holds (r ∷ rs) k = go (tested r.inherit 1) k (λ j. keeps_holds rs j)
     where
       go : {b : Bool} → Tested r.inherit 1 b → Keeps issuer s n (r ∷ rs) → (Keeps issuer s n rs → Holds s n (resolved issuer rs))
@@ -145,7 +146,7 @@ module _ {t : ℕ} {rest : List Row} (z : From (t + 1) 0 rest) where
   -- from any place
   whole : {p b : ℕ} (rs : List Row) → AllListed rs → From p b rs → From t 0 (in_space t rs ++ rest)
   whole [] l y = looser (earlier_space (omega arith)) z
-  whole (r ∷ rs) (Each.more i l) (a_list e u o y) = go (tested r.space t) (whole rs l y)
+  whole {p = p} {b = b} (r ∷ rs) (Each.more i l) (a_list e u o y) = go (tested r.space t) (whole {p = r.space} {b = r.high + 2} rs l y)
     where
       go : {b : Bool} → Tested r.space t b → From t 0 (in_space t rs ++ rest) → From t 0 (pick b (r ∷ in_space t rs) (in_space t rs) ++ rest)
       go (is q) k = a_list e (same_space (sym q) zero-le) o (looser (same_space q (le_refl _)) (inside rs l (looser (same_space (sym q) (le_refl _)) y)))

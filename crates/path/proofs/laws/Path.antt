@@ -94,6 +94,7 @@ pub record Table (path : List Certificate) (first second : List ℕ) (n : ℕ) (
 
 -- rows that all list inherit nothing
 no_inherit : {s : ℕ} {rows : List Row} → AllListed rows → Inherits s rows → ⊥
+no_inherit Each.none h = elim h [ ]
 no_inherit (Each.more e l) (Inherits.here i q) = omega arith
 no_inherit (Each.more e l) (Inherits.there h) = no_inherit l h
 

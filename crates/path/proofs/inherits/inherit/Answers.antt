@@ -1,0 +1,25 @@
+-- `path::inherits::inherit` meets its contract. Assumes nothing.
+use borrow.Author.Rules.{rules}
+use Rattle.path.proofs.Inheriting.{none_many, none_rows, count_there, inherit_short, inherit_lacks, inherit_many, inherit_fills, inherit_rows}
+use Rattle.path.proofs.inherits.inherit.Goals as goal
+
+pub returns-then-own-lt-NUMBERS : goal.returns-then-own-lt-NUMBERS
+returns-then-own-lt-NUMBERS c = search (inherit_short, rules)
+
+pub returns-then-count-gt-ROWS : goal.returns-then-count-gt-ROWS
+returns-then-count-gt-ROWS c = search (none_many, rules)
+
+pub returns-then-not-any_inherits : goal.returns-then-not-any_inherits
+returns-then-not-any_inherits c = search (none_rows, rules)
+
+pub returns-then-total-gt-ROWS : goal.returns-then-total-gt-ROWS
+returns-then-total-gt-ROWS c = search (inherit_many, rules)
+
+pub put_all-requires-clause-filling : goal.put_all-requires-clause-filling
+put_all-requires-clause-filling c = inherit_fills _ _ _ _ _ c.count_all.ensures (count_there _ _ _ c.count-count.ensures) _ c.in-Rows.is c.if-total-gt-ROWS.false
+
+pub returns-in-NoSpace : goal.returns-in-NoSpace
+returns-in-NoSpace c = search (inherit_lacks, rules)
+
+pub returns-else-total-gt-ROWS : goal.returns-else-total-gt-ROWS
+returns-else-total-gt-ROWS c = search (inherit_rows, rules)
