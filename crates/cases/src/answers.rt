@@ -5,56 +5,58 @@ use table::rows;
 use values::readings::Reading;
 
 // A field: a blank, and a number.
-pub fn field(n: u64) {
-    io::write_all(1, b" ");
-    io::print_decimal(1, n);
+pub fn field(rt: &impl Print, n: u64) {
+    let _ = rt.write_all(b" ");
+    let _ = rt.print(n);
 }
 
-fn value_field(value: Halves) {
-    io::write_all(1, b" ");
-    io::print_hex(1, value.upper, 16);
-    io::print_hex(1, value.lower, 16);
+fn value_field(rt: &impl Print, value: Halves) {
+    let upper = value.upper;
+    let lower = value.lower;
+    let _ = rt.write_all(b" ");
+    let _ = print!(rt; "{upper:016x}");
+    let _ = print!(rt; "{lower:016x}");
 }
 
 // The numbers of so many rows, with commas between them.
-pub fn numbers(table: &[u64], count: usize) {
+pub fn numbers(rt: &impl Print, table: &[u64], count: usize) {
     if count == 0 {
-        io::write_all(1, b" -");
+        let _ = rt.write_all(b" -");
         return;
     }
-    io::write_all(1, b" ");
+    let _ = rt.write_all(b" ");
     let mut k: usize = 0;
     while k < table.len() {
         if k / rows::ROW == count {
             return;
         }
         if 0 < k {
-            io::write_all(1, b",");
+            let _ = rt.write_all(b",");
         }
-        io::print_decimal(1, table[k]);
+        let _ = rt.print(table[k]);
         k += 1;
     }
 }
 
 // A reader's reply: 'ok ROWS n,n,..', or 'no NUMBER CERTIFICATE EXTENSION PLACE SPACE VALUE'.
-pub fn reading(reading: Reading, table: &[u64]) {
+pub fn reading(rt: &impl Print, reading: Reading, table: &[u64]) {
     match reading {
         Reading::Rows(n) => {
-            io::write_all(1, b"ok");
-            field(n as u64);
-            numbers(table, n);
+            let _ = rt.write_all(b"ok");
+            field(rt, n as u64);
+            numbers(rt, table, n);
         }
         Reading::Refused(fault) => {
             let refusal = fault.refusal;
             let value = fault.value;
-            io::write_all(1, b"no");
-            field(refusal::number(refusal));
-            field(fault.certificate);
-            field(fault.extension);
-            field(fault.place as u64);
-            field(fault.space);
-            value_field(value);
+            let _ = rt.write_all(b"no");
+            field(rt, refusal::number(refusal));
+            field(rt, fault.certificate);
+            field(rt, fault.extension);
+            field(rt, fault.place as u64);
+            field(rt, fault.space);
+            value_field(rt, value);
         }
     }
-    io::write_all(1, b"\n");
+    let _ = rt.write_all(b"\n");
 }

@@ -8,13 +8,21 @@ mod parted;
 mod written;
 
 use path::paths;
+use std::io::Read;
 use values::readings;
 
 // What the lent tables hold before a call.
 const RUBBISH: u64 = 0xdeadbeef;
 
 // R: the first n octets of the room are a value, and the first numbers of the table are lent.
-fn read_alone(extension: usize, room: &[u8], n: usize, table: &mut [u64], length: usize) {
+fn read_alone(
+    rt: &impl Print,
+    extension: usize,
+    room: &[u8],
+    n: usize,
+    table: &mut [u64],
+    length: usize,
+) {
     if room.len() < n {
         return;
     }
@@ -23,44 +31,45 @@ fn read_alone(extension: usize, room: &[u8], n: usize, table: &mut [u64], length
     }
     if extension == 1 {
         let reading = readings::read_ip(&room[0..n], &mut table[0..length]);
-        answers::reading(reading, table);
+        answers::reading(rt, reading, table);
         return;
     }
     let reading = readings::read_as(&room[0..n], &mut table[0..length]);
-    answers::reading(reading, table);
+    answers::reading(rt, reading, table);
 }
 
-fn reader_case() {
+fn reader_case(rt: &impl Print, input: &mut impl Read) {
     let mut table = [RUBBISH; 4096];
     let mut room = [0u8; 40000];
-    let extension = fields::number();
-    let length = fields::number();
-    let n = fields::octets(&mut room);
-    read_alone(extension, &room, n, &mut table, length);
+    let extension = fields::number(input);
+    let length = fields::number(input);
+    let n = fields::octets(input, &mut room);
+    read_alone(rt, extension, &room, n, &mut table, length);
 }
 
 // F: the octets at fault of one certificate's two values, and the reply of their reading.
-fn part_case() {
+fn part_case(rt: &impl Print, input: &mut impl Read) {
     let mut table = [RUBBISH; 4096];
     let mut ip = [0u8; 40000];
     let mut ids = [0u8; 40000];
-    let length = fields::number();
-    let n = fields::octets(&mut ip);
-    let m = fields::octets(&mut ids);
-    parted::run(&ip, n, &ids, m, &mut table, length);
+    let length = fields::number(input);
+    let n = fields::octets(input, &mut ip);
+    let m = fields::octets(input, &mut ids);
+    parted::run(rt, &ip, n, &ids, m, &mut table, length);
 }
 
-fn writer_case() {
+fn writer_case(rt: &impl Print, input: &mut impl Read) {
     let mut numbers = [RUBBISH; 4096];
     let mut out = [0xeeu8; 40000];
-    let kind = fields::long();
-    let n = fields::longs(&mut numbers);
-    let room = fields::number();
-    written::run(kind, &numbers, n, &mut out, room);
+    let kind = fields::long(input);
+    let n = fields::longs(input, &mut numbers);
+    let room = fields::number(input);
+    written::run(rt, kind, &numbers, n, &mut out, room);
 }
 
 // P: the first n octets of the room are a bundle, and the first numbers of both tables are lent.
 fn check_path(
+    rt: &impl Print,
     room: &[u8],
     n: usize,
     first: &mut [u64],
@@ -81,33 +90,34 @@ fn check_path(
     let mut text = [0u8; report::ROOM];
     let end = report::report(reply, first, &mut text);
     if end <= report::ROOM {
-        io::write_all(1, &text[0..end]);
+        let _ = rt.write_all(&text[0..end]);
     }
 }
 
-fn path_case() {
+fn path_case(rt: &impl Print, input: &mut impl Read) {
     let mut first = [RUBBISH; 4096];
     let mut second = [RUBBISH; 4096];
     let mut room = [0u8; 65536];
-    let length = fields::number();
-    let other = fields::number();
-    let n = fields::octets(&mut room);
-    check_path(&room, n, &mut first, length, &mut second, other);
+    let length = fields::number(input);
+    let other = fields::number(input);
+    let n = fields::octets(input, &mut room);
+    check_path(rt, &room, n, &mut first, length, &mut second, other);
 }
 
-fn main() {
+fn main(rt: HostRuntime) {
+    let mut input = rt.stdin();
     let mut letter = [0u8; 1];
     let mut left: u32 = 100000;
     while 0 < left {
-        if io::read_full(0, &mut letter) == 0 {
+        if fields::read_full(&mut input, &mut letter) == 0 {
             return;
         }
         let which = letter[0];
         match which {
-            b'R' => reader_case(),
-            b'W' => writer_case(),
-            b'P' => path_case(),
-            _ => part_case(),
+            b'R' => reader_case(&rt, &mut input),
+            b'W' => writer_case(&rt, &mut input),
+            b'P' => path_case(&rt, &mut input),
+            _ => part_case(&rt, &mut input),
         }
         left -= 1;
     }

@@ -23,49 +23,57 @@ fn has_part(reading: Reading) -> bool {
 }
 
 // Where a part that ends with its value starts and ends.
-fn ends(which: u64, length: usize, part: &[u8]) {
-    io::write_all(1, b"part");
-    answers::field(which);
+fn ends(rt: &impl Print, which: u64, length: usize, part: &[u8]) {
+    let _ = rt.write_all(b"part");
+    answers::field(rt, which);
     if part.len() <= length {
-        answers::field((length - part.len()) as u64);
+        answers::field(rt, (length - part.len()) as u64);
     }
-    answers::field(length as u64);
+    answers::field(rt, length as u64);
 }
 
-fn part<'a>(ip: &'a [u8], ids: &'a [u8], table: &mut [u64], reading: Reading) {
+fn part<'a>(rt: &impl Print, ip: &'a [u8], ids: &'a [u8], table: &mut [u64], reading: Reading) {
     let octets = parts::fault(ip, ids, table);
     if !has_part(reading) {
-        ends(1, 0, octets);
+        ends(rt, 1, 0, octets);
         return;
     }
     if of_ids(reading) {
-        ends(2, ids.len(), octets);
+        ends(rt, 2, ids.len(), octets);
         return;
     }
-    ends(1, ip.len(), octets);
+    ends(rt, 1, ip.len(), octets);
 }
 
 // The number, the extension and the place of the refusal, or zeros; then the rows.
-fn reply(reading: Reading, table: &[u64]) {
+fn reply(rt: &impl Print, reading: Reading, table: &[u64]) {
     match reading {
         Reading::Rows(n) => {
-            io::write_all(1, b" 0 0 0");
-            answers::field(n as u64);
-            answers::numbers(table, n);
+            let _ = rt.write_all(b" 0 0 0");
+            answers::field(rt, n as u64);
+            answers::numbers(rt, table, n);
         }
         Reading::Refused(fault) => {
             let refusal = fault.refusal;
-            answers::field(refusal::number(refusal));
-            answers::field(fault.extension);
-            answers::field(fault.place as u64);
-            io::write_all(1, b" 0 -");
+            answers::field(rt, refusal::number(refusal));
+            answers::field(rt, fault.extension);
+            answers::field(rt, fault.place as u64);
+            let _ = rt.write_all(b" 0 -");
         }
     }
-    io::write_all(1, b"\n");
+    let _ = rt.write_all(b"\n");
 }
 
 // The first octets of each room are its value, and the first numbers of the table are lent.
-pub fn run<'a>(ip: &'a [u8], n: usize, ids: &'a [u8], m: usize, table: &mut [u64], length: usize) {
+pub fn run<'a>(
+    rt: &impl Print,
+    ip: &'a [u8],
+    n: usize,
+    ids: &'a [u8],
+    m: usize,
+    table: &mut [u64],
+    length: usize,
+) {
     if ip.len() < n {
         return;
     }
@@ -76,6 +84,6 @@ pub fn run<'a>(ip: &'a [u8], n: usize, ids: &'a [u8], m: usize, table: &mut [u64
         return;
     }
     let reading = readings::read_both(&ip[0..n], &ids[0..m], &mut table[0..length]);
-    part(&ip[0..n], &ids[0..m], &mut table[0..length], reading);
-    reply(reading, table);
+    part(rt, &ip[0..n], &ids[0..m], &mut table[0..length], reading);
+    reply(rt, reading, table);
 }

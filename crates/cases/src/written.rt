@@ -1,36 +1,36 @@
 // W: rows written to the start of an output. 'ok LENGTH hex', or the refusal.
-use crate::{answers, fields};
+use crate::answers;
 use values::readings::Reading;
 use writer::Writing;
 
-fn octets(out: &[u8]) {
-    io::write_all(1, b" ");
+fn octets(rt: &impl Print, out: &[u8]) {
+    let _ = rt.write_all(b" ");
     let mut k: usize = 0;
     while k < out.len() {
         let octet = out[k];
-        io::print_hex(1, fields::wide(octet) as u64, 2);
+        let _ = print!(rt; "{octet:02x}");
         k += 1;
     }
 }
 
-fn reply(writing: Writing, out: &[u8]) {
+fn reply(rt: &impl Print, writing: Writing, out: &[u8]) {
     match writing {
         Writing::Octets(n) => {
-            io::write_all(1, b"ok");
-            answers::field(n as u64);
+            let _ = rt.write_all(b"ok");
+            answers::field(rt, n as u64);
             if n <= out.len() {
-                octets(&out[0..n]);
+                octets(rt, &out[0..n]);
             }
-            io::write_all(1, b"\n");
+            let _ = rt.write_all(b"\n");
         }
         Writing::Refused(fault) => {
-            answers::reading(Reading::Refused(fault), &[]);
+            answers::reading(rt, Reading::Refused(fault), &[]);
         }
     }
 }
 
 // The first n numbers of the run are the rows, and the first octets of the output are lent.
-pub fn run(kind: u64, numbers: &[u64], n: usize, out: &mut [u8], room: usize) {
+pub fn run(rt: &impl Print, kind: u64, numbers: &[u64], n: usize, out: &mut [u8], room: usize) {
     if numbers.len() < n {
         return;
     }
@@ -38,5 +38,5 @@ pub fn run(kind: u64, numbers: &[u64], n: usize, out: &mut [u8], room: usize) {
         return;
     }
     let writing = writer::write(kind, &numbers[0..n], &mut out[0..room]);
-    reply(writing, out);
+    reply(rt, writing, out);
 }

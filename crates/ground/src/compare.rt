@@ -4,46 +4,46 @@ use crate::{edges, print};
 use number::halves;
 use number::halves::Width;
 
-fn order(a: Edge, b: Edge) {
+fn order(rt: &impl Print, a: Edge, b: Edge) {
     let x = edges::value(a);
     let y = edges::value(b);
-    io::write_all(1, b"order");
-    print::named(a);
-    print::named(b);
-    print::flag(halves::same(x, y));
-    print::flag(halves::below(x, y));
-    print::flag(halves::at_most(x, y));
-    print::flag(halves::past(x, y));
-    print::end();
+    let _ = rt.write_all(b"order");
+    print::named(rt, a);
+    print::named(rt, b);
+    print::flag(rt, halves::same(x, y));
+    print::flag(rt, halves::below(x, y));
+    print::flag(rt, halves::at_most(x, y));
+    print::flag(rt, halves::past(x, y));
+    print::end(rt);
 }
 
-fn step(a: Edge) {
-    io::write_all(1, b"next");
-    print::named(a);
-    print::whole(halves::next(edges::value(a)));
-    print::end();
+fn step(rt: &impl Print, a: Edge) {
+    let _ = rt.write_all(b"next");
+    print::named(rt, a);
+    print::whole(rt, halves::next(edges::value(a)));
+    print::end(rt);
 }
 
-fn around(k: u32) {
-    step(edges::below(k));
-    step(edges::at(k));
-    step(edges::above(k));
-    order(edges::below(k), edges::at(k));
-    order(edges::at(k), edges::at(k));
-    order(edges::at(k), edges::below(k));
-    order(edges::below(k), edges::above(k));
-    order(edges::zero(), edges::at(k));
+fn around(rt: &impl Print, k: u32) {
+    step(rt, edges::below(k));
+    step(rt, edges::at(k));
+    step(rt, edges::above(k));
+    order(rt, edges::below(k), edges::at(k));
+    order(rt, edges::at(k), edges::at(k));
+    order(rt, edges::at(k), edges::below(k));
+    order(rt, edges::below(k), edges::above(k));
+    order(rt, edges::zero(), edges::at(k));
 }
 
-pub fn orders() {
+pub fn orders(rt: &impl Print) {
     let mut k: u32 = 0;
     while k < 128 {
-        around(k);
+        around(rt, k);
         k += 1;
     }
     let end = edges::last(Width::Bits128);
-    step(end);
-    order(end, end);
-    order(end, edges::zero());
-    order(edges::zero(), end);
+    step(rt, end);
+    order(rt, end, end);
+    order(rt, end, edges::zero());
+    order(rt, edges::zero(), end);
 }

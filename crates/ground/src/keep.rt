@@ -4,39 +4,39 @@ use crate::{edges, print};
 use number::halves::{Halves, Width};
 use number::{halves, kept};
 
-fn row(width: Width, edge: Edge) {
+fn row(rt: &impl Print, width: Width, edge: Edge) {
     let n = edges::value(edge);
     let min = kept::kept_min(width, n);
     let max = kept::kept_max(width, n);
-    io::write_all(1, b"kept");
-    print::wide(width);
-    print::named(edge);
-    print::count(min);
-    print::whole(kept::zero_filled(width, min, n));
-    print::count(max);
-    print::whole(kept::one_filled(width, max, n));
-    print::end();
+    let _ = rt.write_all(b"kept");
+    print::wide(rt, width);
+    print::named(rt, edge);
+    print::count(rt, min);
+    print::whole(rt, kept::zero_filled(width, min, n));
+    print::count(rt, max);
+    print::whole(rt, kept::one_filled(width, max, n));
+    print::end(rt);
 }
 
-pub fn rows(width: Width) {
+pub fn rows(rt: &impl Print, width: Width) {
     let w = halves::bits(width);
     let mut k: u32 = 0;
     while k < w {
-        row(width, edges::below(k));
-        row(width, edges::at(k));
-        row(width, edges::above(k));
+        row(rt, width, edges::below(k));
+        row(rt, width, edges::at(k));
+        row(rt, width, edges::above(k));
         k += 1;
     }
-    row(width, edges::last(width));
+    row(rt, width, edges::last(width));
 }
 
-fn fill(width: Width, first: u32, n: Halves) {
-    io::write_all(1, b"fill");
-    print::wide(width);
-    print::count(first);
-    print::whole(kept::zero_filled(width, first, n));
-    print::whole(kept::one_filled(width, first, n));
-    print::end();
+fn fill(rt: &impl Print, width: Width, first: u32, n: Halves) {
+    let _ = rt.write_all(b"fill");
+    print::wide(rt, width);
+    print::count(rt, first);
+    print::whole(rt, kept::zero_filled(width, first, n));
+    print::whole(rt, kept::one_filled(width, first, n));
+    print::end(rt);
 }
 
 // Ones and zeros in turn, alone and in pairs.
@@ -54,19 +54,19 @@ fn pattern(width: Width) -> Halves {
 }
 
 // Every number of bits that can be kept, and more than there are.
-pub fn fills(width: Width) {
+pub fn fills(rt: &impl Print, width: Width) {
     let n = pattern(width);
     let w = halves::bits(width);
     let mut k: u32 = 0;
     while k < w {
-        fill(width, k, n);
+        fill(rt, width, k, n);
         k += 1;
     }
-    fill(width, w, n);
-    fill(width, 129, n);
-    fill(width, u32::MAX, n);
+    fill(rt, width, w, n);
+    fill(rt, width, 129, n);
+    fill(rt, width, u32::MAX, n);
     let end = edges::value(edges::last(width));
-    fill(width, 0, end);
-    fill(width, 1, end);
-    fill(width, w, end);
+    fill(rt, width, 0, end);
+    fill(rt, width, 1, end);
+    fill(rt, width, w, end);
 }

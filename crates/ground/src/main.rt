@@ -15,21 +15,21 @@ mod whole;
 
 use number::halves::Width;
 
-fn main() {
-    compare::orders();
-    spell::values(Width::Bits32, 34);
-    spell::values(Width::Bits128, 128);
-    spell::leftovers();
-    spell::parts();
-    keep::rows(Width::Bits32);
-    keep::rows(Width::Bits128);
-    keep::fills(Width::Bits32);
-    keep::fills(Width::Bits128);
-    form::pairs(Width::Bits32);
-    form::pairs(Width::Bits128);
-    form::mixes();
-    refuse::numbers();
-    space::edges();
-    store::rows_of_a_run();
-    whole::tables_or_not();
+fn main(rt: HostRuntime) {
+    compare::orders(&rt);
+    spell::values(&rt, Width::Bits32, 34);
+    spell::values(&rt, Width::Bits128, 128);
+    spell::leftovers(&rt);
+    spell::parts(&rt);
+    keep::rows(&rt, Width::Bits32);
+    keep::rows(&rt, Width::Bits128);
+    keep::fills(&rt, Width::Bits32);
+    keep::fills(&rt, Width::Bits128);
+    form::pairs(&rt, Width::Bits32);
+    form::pairs(&rt, Width::Bits128);
+    form::mixes(&rt);
+    refuse::numbers(&rt);
+    space::edges(&rt);
+    store::rows_of_a_run(&rt);
+    whole::tables_or_not(&rt);
 }

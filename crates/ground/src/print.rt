@@ -4,74 +4,77 @@ use number::halves;
 use number::halves::{Halves, Width};
 use number::shape::Shape;
 
-pub fn end() {
-    io::write_all(1, b"\n");
+pub fn end(rt: &impl Print) {
+    let _ = rt.write_all(b"\n");
 }
 
-pub fn count(n: u32) {
-    io::write_all(1, b" ");
-    io::print_decimal(1, n as u64);
+pub fn count(rt: &impl Print, n: u32) {
+    let _ = rt.write_all(b" ");
+    let _ = rt.print(n as u64);
 }
 
-pub fn long(n: u64) {
-    io::write_all(1, b" ");
-    io::print_decimal(1, n);
+pub fn long(rt: &impl Print, n: u64) {
+    let _ = rt.write_all(b" ");
+    let _ = rt.print(n);
 }
 
-pub fn flag(is: bool) {
+pub fn flag(rt: &impl Print, is: bool) {
     if is {
-        io::write_all(1, b" yes");
+        let _ = rt.write_all(b" yes");
     } else {
-        io::write_all(1, b" no");
+        let _ = rt.write_all(b" no");
     }
 }
 
-pub fn whole(n: Halves) {
-    io::write_all(1, b" ");
-    if 0 < n.upper {
-        io::print_hex(1, n.upper, 1);
-        io::print_hex(1, n.lower, 16);
+pub fn whole(rt: &impl Print, n: Halves) {
+    let upper = n.upper;
+    let lower = n.lower;
+    let _ = rt.write_all(b" ");
+    if 0 < upper {
+        let _ = print!(rt; "{upper:x}");
+        let _ = print!(rt; "{lower:016x}");
     } else {
-        io::print_hex(1, n.lower, 1);
+        let _ = print!(rt; "{lower:x}");
     }
 }
 
-pub fn named(edge: Edge) {
-    io::write_all(1, b" 2^");
-    io::print_decimal(1, edge.power as u64);
+pub fn named(rt: &impl Print, edge: Edge) {
+    let _ = rt.write_all(b" 2^");
+    let _ = rt.print(edge.power as u64);
     let side = edge.side;
     match side {
         Side::Below => {
-            io::write_all(1, b"-1");
+            let _ = rt.write_all(b"-1");
         }
         Side::At => {}
         Side::Above => {
-            io::write_all(1, b"+1");
+            let _ = rt.write_all(b"+1");
         }
     }
 }
 
-pub fn octets(octets: [u8; 16]) {
-    io::write_all(1, b" ");
+pub fn octets(rt: &impl Print, octets: [u8; 16]) {
+    let _ = rt.write_all(b" ");
     let mut k: usize = 0;
     while k < 16 {
-        io::print_hex(1, octets[k] as u64, 2);
+        let octet = octets[k];
+        let _ = print!(rt; "{octet:02x}");
         k += 1;
     }
 }
 
-pub fn wide(width: Width) {
-    count(halves::bits(width));
+pub fn wide(rt: &impl Print, width: Width) {
+    count(rt, halves::bits(width));
 }
 
-pub fn shaped(shape: Shape) {
+pub fn shaped(rt: &impl Print, shape: Shape) {
     match shape {
         Shape::Prefix(n) => {
-            io::write_all(1, b" prefix");
-            count(n);
+            let _ = rt.write_all(b" prefix");
+            count(rt, n);
         }
         Shape::Range => {
-            io::write_all(1, b" range");
+            let _ = rt.write_all(b" range");
         }
     }
 }

@@ -3,31 +3,31 @@ use crate::print;
 use number::refusal;
 use number::refusal::Refusal;
 
-fn show(refusal: Refusal) {
-    io::write_all(1, b"refusal");
-    print::long(refusal::number(refusal));
-    print::end();
+fn show(rt: &impl Print, refusal: Refusal) {
+    let _ = rt.write_all(b"refusal");
+    print::long(rt, refusal::number(refusal));
+    print::end(rt);
 }
 
-pub fn numbers() {
-    show(Refusal::ValueSize);
-    show(Refusal::Element);
-    show(Refusal::Tag);
-    show(Refusal::Contents);
-    show(Refusal::OctetsLeft);
-    show(Refusal::Afi);
-    show(Refusal::FamilyOrder);
-    show(Refusal::EmptyList);
-    show(Refusal::RangeForm);
-    show(Refusal::ElementOrder);
-    show(Refusal::RowCount);
-    show(Refusal::CertificateCount);
-    show(Refusal::IssuerLacks);
-    show(Refusal::NothingToInherit);
-    show(Refusal::NotHeld);
-    show(Refusal::TableShort);
-    show(Refusal::Mark);
-    show(Refusal::Framing);
-    show(Refusal::NotATable);
-    show(Refusal::OutputShort);
+pub fn numbers(rt: &impl Print) {
+    show(rt, Refusal::ValueSize);
+    show(rt, Refusal::Element);
+    show(rt, Refusal::Tag);
+    show(rt, Refusal::Contents);
+    show(rt, Refusal::OctetsLeft);
+    show(rt, Refusal::Afi);
+    show(rt, Refusal::FamilyOrder);
+    show(rt, Refusal::EmptyList);
+    show(rt, Refusal::RangeForm);
+    show(rt, Refusal::ElementOrder);
+    show(rt, Refusal::RowCount);
+    show(rt, Refusal::CertificateCount);
+    show(rt, Refusal::IssuerLacks);
+    show(rt, Refusal::NothingToInherit);
+    show(rt, Refusal::NotHeld);
+    show(rt, Refusal::TableShort);
+    show(rt, Refusal::Mark);
+    show(rt, Refusal::Framing);
+    show(rt, Refusal::NotATable);
+    show(rt, Refusal::OutputShort);
 }

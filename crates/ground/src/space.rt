@@ -2,32 +2,32 @@
 use crate::print;
 use table::spaces;
 
-fn show(space: u64) {
-    io::write_all(1, b"space");
-    print::long(space);
-    print::long(spaces::kind(space));
-    print::wide(spaces::width(space));
-    print::end();
+fn show(rt: &impl Print, space: u64) {
+    let _ = rt.write_all(b"space");
+    print::long(rt, space);
+    print::long(rt, spaces::kind(space));
+    print::wide(rt, spaces::width(space));
+    print::end(rt);
 }
 
 // A space and its two neighbours.
-fn beside(space: u64) {
+fn beside(rt: &impl Print, space: u64) {
     if 0 < space {
-        show(space - 1);
+        show(rt, space - 1);
     }
-    show(space);
+    show(rt, space);
     if space < u64::MAX {
-        show(space + 1);
+        show(rt, space + 1);
     }
 }
 
-pub fn edges() {
-    beside(0);
-    beside(spaces::IPV4);
-    beside(spaces::IPV4_LAST);
-    beside(spaces::IPV6);
-    beside(spaces::IPV6_LAST);
-    beside(spaces::AS_NUMBERS);
-    beside(spaces::ROUTING_DOMAINS);
-    beside(u64::MAX);
+pub fn edges(rt: &impl Print) {
+    beside(rt, 0);
+    beside(rt, spaces::IPV4);
+    beside(rt, spaces::IPV4_LAST);
+    beside(rt, spaces::IPV6);
+    beside(rt, spaces::IPV6_LAST);
+    beside(rt, spaces::AS_NUMBERS);
+    beside(rt, spaces::ROUTING_DOMAINS);
+    beside(rt, u64::MAX);
 }

@@ -6,76 +6,76 @@ use number::halves::Width;
 use number::{address, kept};
 
 // A number at a width: its runs, its address, and the number of that.
-fn value(width: Width, edge: Edge) {
+fn value(rt: &impl Print, width: Width, edge: Edge) {
     let n = edges::value(edge);
     let a = address::from_halves(width, n);
     let octets = a.octets;
-    io::write_all(1, b"value");
-    print::wide(width);
-    print::named(edge);
-    print::count(kept::zeros(width, n));
-    print::count(kept::ones(width, n));
-    print::octets(octets);
-    print::whole(address::to_halves(a));
-    print::end();
+    let _ = rt.write_all(b"value");
+    print::wide(rt, width);
+    print::named(rt, edge);
+    print::count(rt, kept::zeros(width, n));
+    print::count(rt, kept::ones(width, n));
+    print::octets(rt, octets);
+    print::whole(rt, address::to_halves(a));
+    print::end(rt);
 }
 
 // The numbers beside the first powers of two, and the last number of 128 bits.
-pub fn values(width: Width, powers: u32) {
+pub fn values(rt: &impl Print, width: Width, powers: u32) {
     let mut k: u32 = 0;
     while k < powers {
-        value(width, edges::below(k));
-        value(width, edges::at(k));
-        value(width, edges::above(k));
+        value(rt, width, edges::below(k));
+        value(rt, width, edges::at(k));
+        value(rt, width, edges::above(k));
         k += 1;
     }
-    value(width, edges::last(Width::Bits128));
+    value(rt, width, edges::last(Width::Bits128));
 }
 
 // An address of 32 bits with octets past its width that are not 0.
-fn leftover(edge: Edge) {
+fn leftover(rt: &impl Print, edge: Edge) {
     let full = address::from_halves(Width::Bits128, edges::value(edge));
     let octets = full.octets;
     let a = Address {
         width: Width::Bits32,
         octets,
     };
-    io::write_all(1, b"leftover");
-    print::named(edge);
-    print::whole(address::to_halves(a));
-    print::end();
+    let _ = rt.write_all(b"leftover");
+    print::named(rt, edge);
+    print::whole(rt, address::to_halves(a));
+    print::end(rt);
 }
 
-pub fn leftovers() {
+pub fn leftovers(rt: &impl Print) {
     let mut k: u32 = 96;
     while k < 129 {
-        leftover(edges::below(k));
+        leftover(rt, edges::below(k));
         k += 1;
     }
 }
 
 // The first k of the octets, where there are so many.
-fn part(octets: &[u8], k: usize) {
+fn part(rt: &impl Print, octets: &[u8], k: usize) {
     if k <= octets.len() {
-        io::write_all(1, b"spelled");
-        print::long(k as u64);
-        print::long(address::spelled(&octets[0..k]));
-        print::end();
+        let _ = rt.write_all(b"spelled");
+        print::long(rt, k as u64);
+        print::long(rt, address::spelled(&octets[0..k]));
+        print::end(rt);
     }
 }
 
-fn each_part(octets: &[u8]) {
+fn each_part(rt: &impl Print, octets: &[u8]) {
     let mut k: usize = 0;
     while k < 18 {
-        part(octets, k);
+        part(rt, octets, k);
         k += 1;
     }
 }
 
-pub fn parts() {
-    each_part(b"");
-    each_part(&[255; 17]);
-    each_part(&[0, 0, 0, 0, 0, 0, 0, 1, 2]);
-    each_part(&[128, 0, 0, 0, 0, 0, 0, 0, 1]);
-    each_part(&[1, 2, 3, 4, 5, 6, 7, 8, 9, 10, 11, 12, 13, 14, 15, 16]);
+pub fn parts(rt: &impl Print) {
+    each_part(rt, b"");
+    each_part(rt, &[255; 17]);
+    each_part(rt, &[0, 0, 0, 0, 0, 0, 0, 1, 2]);
+    each_part(rt, &[128, 0, 0, 0, 0, 0, 0, 0, 1]);
+    each_part(rt, &[1, 2, 3, 4, 5, 6, 7, 8, 9, 10, 11, 12, 13, 14, 15, 16]);
 }

@@ -4,24 +4,24 @@ use number::halves::Width;
 use table::rows;
 use table::rows::Row;
 
-fn numbers(run: &[u64]) {
+fn numbers(rt: &impl Print, run: &[u64]) {
     let mut k: usize = 0;
     while k < run.len() {
-        print::long(run[k]);
+        print::long(rt, run[k]);
         k += 1;
     }
-    print::end();
+    print::end(rt);
 }
 
-fn put(n: usize, row: Row) {
+fn put(rt: &impl Print, n: usize, row: Row) {
     let mut run = [7u64; 13];
     rows::put(&mut run, n, row);
-    io::write_all(1, b"put");
-    print::long(n as u64);
-    numbers(&run);
+    let _ = rt.write_all(b"put");
+    print::long(rt, n as u64);
+    numbers(rt, &run);
 }
 
-fn got(n: usize) {
+fn got(rt: &impl Print, n: usize) {
     let run = [
         1u64,
         2,
@@ -38,24 +38,24 @@ fn got(n: usize) {
         13,
     ];
     let row = rows::get(&run, n);
-    io::write_all(1, b"get");
-    print::long(n as u64);
-    print::long(row.space);
-    print::long(row.inherit);
-    print::whole(row.low);
-    print::whole(row.high);
-    print::end();
+    let _ = rt.write_all(b"get");
+    print::long(rt, n as u64);
+    print::long(rt, row.space);
+    print::long(rt, row.inherit);
+    print::whole(rt, row.low);
+    print::whole(rt, row.high);
+    print::end(rt);
 }
 
-fn clear(count: usize) {
+fn clear(rt: &impl Print, count: usize) {
     let mut run = [7u64; 13];
     rows::clear(&mut run, count);
-    io::write_all(1, b"clear");
-    print::long(count as u64);
-    numbers(&run);
+    let _ = rt.write_all(b"clear");
+    print::long(rt, count as u64);
+    numbers(rt, &run);
 }
 
-pub fn rows_of_a_run() {
+pub fn rows_of_a_run(rt: &impl Print) {
     let low = edges::value(edges::at(64));
     let high = edges::value(edges::last(Width::Bits128));
     let row = Row {
@@ -64,18 +64,18 @@ pub fn rows_of_a_run() {
         low: low,
         high: high,
     };
-    put(0, row);
-    put(1, row);
-    put(2, row);
-    put(usize::MAX, row);
-    got(0);
-    got(1);
-    got(2);
-    got(usize::MAX);
-    clear(0);
-    clear(1);
-    clear(12);
-    clear(13);
-    clear(14);
-    clear(usize::MAX);
+    put(rt, 0, row);
+    put(rt, 1, row);
+    put(rt, 2, row);
+    put(rt, usize::MAX, row);
+    got(rt, 0);
+    got(rt, 1);
+    got(rt, 2);
+    got(rt, usize::MAX);
+    clear(rt, 0);
+    clear(rt, 1);
+    clear(rt, 12);
+    clear(rt, 13);
+    clear(rt, 14);
+    clear(rt, usize::MAX);
 }

@@ -4,6 +4,7 @@
 ghost use Rattle.pathtable.specs.Inputs.{Within};
 
 use path::{bundles, paths};
+use std::io::Read;
 use table::rows;
 
 // How many octets were read; or that reading failed.
@@ -14,47 +15,43 @@ enum Input {
 }
 
 // Reads standard input to its end, or until the room is full.
-fn read_input(room: &mut [u8]) -> Input
+fn read_input(input: &mut impl Read, room: &mut [u8]) -> Input
     ensures { Within result room.new }
 {
     let mut done: usize = 0;
     while done < room.len() {
-        let got = libc::read(0, &mut room[done..]);
-        if got < 0 {
-            return Input::Failed;
+        match input.read(&mut room[done..]) {
+            Err(_) => return Input::Failed,
+            Ok(0) => return Input::Octets(done),
+            Ok(more) => done += more,
         }
-        let more = io::count(got, &room[done..]);
-        if more == 0 {
-            return Input::Octets(done);
-        }
-        done += more;
     }
     Input::Octets(done)
 }
 
 // The path check on the octets that were read, and its report. Returns whether it was written.
-fn print_table(bundle: &[u8]) -> bool {
+fn print_table(rt: &impl Print, bundle: &[u8]) -> bool {
     let mut first = [0u64; rows::NUMBERS];
     let mut second = [0u64; rows::NUMBERS];
     let mut text = [0u8; report::ROOM];
     let reply = paths::check(bundle, &mut first, &mut second);
     let n = report::report(reply, &first, &mut text);
     if n <= report::ROOM {
-        return io::write_all(1, &text[0..n]);
+        return rt.write_all(&text[0..n]).is_ok();
     }
     false
 }
 
-fn main() {
+fn main(rt: HostRuntime) {
     // one octet more than a bundle may have: more than 65,536 octets are refused (18)
     let mut room = [0u8; bundles::MOST_OCTETS + 1];
-    match read_input(&mut room) {
+    match read_input(&mut rt.stdin(), &mut room) {
         Input::Failed => {
-            io::write_all(2, b"pathtable: standard input could not be read\n");
+            let _ = rt.eprint("pathtable: standard input could not be read\n");
         }
         Input::Octets(n) => {
-            if !print_table(&room[0..n]) {
-                io::write_all(2, b"pathtable: standard output could not be written\n");
+            if !print_table(&rt, &room[0..n]) {
+                let _ = rt.eprint("pathtable: standard output could not be written\n");
             }
         }
     }
