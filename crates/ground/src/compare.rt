@@ -36,10 +36,8 @@ fn around(rt: &impl Print, k: u32) {
 }
 
 pub fn orders(rt: &impl Print) {
-    let mut k: u32 = 0;
-    while k < 128 {
+    for k in 0..128 {
         around(rt, k);
-        k += 1;
     }
     let end = edges::last(Width::Bits128);
     step(rt, end);

@@ -31,10 +31,8 @@ fn around(rt: &impl Print, width: Width, k: u32, next: u32) {
 
 pub fn pairs(rt: &impl Print, width: Width) {
     let w = halves::bits(width);
-    let mut k: u32 = 0;
-    while k < w {
+    for k in 0..w {
         around(rt, width, k, k + 1);
-        k += 1;
     }
     let end = edges::last(width);
     pair(rt, width, edges::zero(), end);
@@ -45,8 +43,7 @@ pub fn pairs(rt: &impl Print, width: Width) {
 
 // Addresses of two widths.
 pub fn mixes(rt: &impl Print) {
-    let mut k: u32 = 0;
-    while k < 40 {
+    for k in 0..40 {
         told(
             rt,
             Width::Bits32,
@@ -61,6 +58,5 @@ pub fn mixes(rt: &impl Print) {
             Width::Bits32,
             edges::at(k),
         );
-        k += 1;
     }
 }

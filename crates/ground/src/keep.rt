@@ -20,12 +20,10 @@ fn row(rt: &impl Print, width: Width, edge: Edge) {
 
 pub fn rows(rt: &impl Print, width: Width) {
     let w = halves::bits(width);
-    let mut k: u32 = 0;
-    while k < w {
+    for k in 0..w {
         row(rt, width, edges::below(k));
         row(rt, width, edges::at(k));
         row(rt, width, edges::above(k));
-        k += 1;
     }
     row(rt, width, edges::last(width));
 }
@@ -57,10 +55,8 @@ fn pattern(width: Width) -> Halves {
 pub fn fills(rt: &impl Print, width: Width) {
     let n = pattern(width);
     let w = halves::bits(width);
-    let mut k: u32 = 0;
-    while k < w {
+    for k in 0..w {
         fill(rt, width, k, n);
-        k += 1;
     }
     fill(rt, width, w, n);
     fill(rt, width, 129, n);

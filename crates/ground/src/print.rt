@@ -55,11 +55,8 @@ pub fn named(rt: &impl Print, edge: Edge) {
 
 pub fn octets(rt: &impl Print, octets: [u8; 16]) {
     let _ = rt.write_all(b" ");
-    let mut k: usize = 0;
-    while k < 16 {
-        let octet = octets[k];
+    for octet in octets {
         let _ = print!(rt; "{octet:02x}");
-        k += 1;
     }
 }
 

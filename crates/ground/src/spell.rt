@@ -22,12 +22,10 @@ fn value(rt: &impl Print, width: Width, edge: Edge) {
 
 // The numbers beside the first powers of two, and the last number of 128 bits.
 pub fn values(rt: &impl Print, width: Width, powers: u32) {
-    let mut k: u32 = 0;
-    while k < powers {
+    for k in 0..powers {
         value(rt, width, edges::below(k));
         value(rt, width, edges::at(k));
         value(rt, width, edges::above(k));
-        k += 1;
     }
     value(rt, width, edges::last(Width::Bits128));
 }
@@ -47,10 +45,8 @@ fn leftover(rt: &impl Print, edge: Edge) {
 }
 
 pub fn leftovers(rt: &impl Print) {
-    let mut k: u32 = 96;
-    while k < 129 {
+    for k in 96..129 {
         leftover(rt, edges::below(k));
-        k += 1;
     }
 }
 
@@ -65,10 +61,8 @@ fn part(rt: &impl Print, octets: &[u8], k: usize) {
 }
 
 fn each_part(rt: &impl Print, octets: &[u8]) {
-    let mut k: usize = 0;
-    while k < 18 {
+    for k in 0..18 {
         part(rt, octets, k);
-        k += 1;
     }
 }
 

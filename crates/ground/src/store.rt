@@ -5,10 +5,8 @@ use table::rows;
 use table::rows::Row;
 
 fn numbers(rt: &impl Print, run: &[u64]) {
-    let mut k: usize = 0;
-    while k < run.len() {
-        print::long(rt, run[k]);
-        k += 1;
+    for n in run {
+        print::long(rt, *n);
     }
     print::end(rt);
 }

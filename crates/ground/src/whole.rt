@@ -59,8 +59,7 @@ fn pairs_of_rows(rt: &impl Print) {
 // As many rows as a table may have, and one more.
 fn many_rows(rt: &impl Print) {
     let mut run = [0u64; 3078];
-    let mut k: usize = 0;
-    while k < 513 {
+    for k in 0..513 {
         let n = Halves {
             upper: 0,
             lower: 2 * (k as u64),
@@ -72,7 +71,6 @@ fn many_rows(rt: &impl Print) {
             high: n,
         };
         rows::put(&mut run, k, row);
-        k += 1;
     }
     tried(rt, &run[0..3071]);
     tried(rt, &run[0..3072]);
