@@ -25,16 +25,14 @@ pub fn numbers(rt: &impl Print, table: &[u64], count: usize) {
         return;
     }
     let _ = rt.write_all(b" ");
-    let mut k: usize = 0;
-    while k < table.len() {
+    for (k, n) in table.iter().enumerate() {
         if k / rows::ROW == count {
             return;
         }
         if 0 < k {
             let _ = rt.write_all(b",");
         }
-        let _ = rt.print(table[k]);
-        k += 1;
+        let _ = rt.print(*n);
     }
 }
 

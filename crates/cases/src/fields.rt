@@ -53,13 +53,11 @@ pub fn long(input: &mut impl Read) -> u64 {
 // Numbers of eight octets with their count before them; as many as there is room for.
 pub fn longs(input: &mut impl Read, room: &mut [u64]) -> usize {
     let n = number(input);
-    let mut k: usize = 0;
-    while k < room.len() {
+    for k in 0..room.len() {
         if k == n {
             return k;
         }
         room[k] = long(input);
-        k += 1;
     }
-    k
+    room.len()
 }

@@ -107,8 +107,7 @@ fn path_case(rt: &impl Print, input: &mut impl Read) {
 fn main(rt: HostRuntime) {
     let mut input = rt.stdin();
     let mut letter = [0u8; 1];
-    let mut left: u32 = 100000;
-    while 0 < left {
+    for _ in 0..100000 {
         if fields::read_full(&mut input, &mut letter) == 0 {
             return;
         }
@@ -119,6 +118,5 @@ fn main(rt: HostRuntime) {
             b'P' => path_case(&rt, &mut input),
             _ => part_case(&rt, &mut input),
         }
-        left -= 1;
     }
 }

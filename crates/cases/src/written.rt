@@ -5,11 +5,8 @@ use writer::Writing;
 
 fn octets(rt: &impl Print, out: &[u8]) {
     let _ = rt.write_all(b" ");
-    let mut k: usize = 0;
-    while k < out.len() {
-        let octet = out[k];
+    for octet in out {
         let _ = print!(rt; "{octet:02x}");
-        k += 1;
     }
 }
 

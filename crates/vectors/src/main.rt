@@ -50,12 +50,10 @@ fn run_all(
     second: &mut [u64],
     text: &mut [u8],
 ) {
-    let mut left: u32 = 100000;
-    while 0 < left {
+    for _ in 0..100000 {
         if !next(rt, input, room, first, second, text) {
             return;
         }
-        left -= 1;
     }
 }
 
