@@ -14,7 +14,7 @@ enum Input {
     Failed,
 }
 
-// Reads standard input to its end, or until the room is full.
+// Reads the input to its end, or until the room is full.
 fn read_input(input: &mut impl Read, room: &mut [u8]) -> Input
     ensures { Within result room.new }
 {
