@@ -1,6 +1,6 @@
 -- What the code of `bits` and of `integers` finds, in the terms of the definitions. Theorems. Assumes nothing.
 --     unit_pos, no_octets, last_zeros     what `ends_in_zeros` finds
---     none_is      a BIT STRING that is none.       refused_.., taken       what `read` answers at each of its ends
+--     refused_.., taken       what `read` answers at each of its ends
 --     spelt        the number of at most five octets
 use mathlib.Core.Path.{◌≡◌, refl, sym, ap, ◌∙◌}
 use mathlib.Core.List.{List, [], ◌∷◌, ◌++◌, append_assoc}
@@ -22,10 +22,10 @@ use Rattle.number.specs.declared.address.Address.{Address}
 use Rattle.number.proofs.Picks.{rest_of}
 use Rattle.number.proofs.Sixteen.{width_octets}
 use Rattle.number.proofs.laws.Octets.{value_below, octets-drop}
-use Rattle.der.specs.Bits.{bad, cut, read_bits, no_bits, addressed, bit_string_of}
+use Rattle.der.specs.Bits.{bad, cut, read_bits, addressed, bit_string_of}
 use Rattle.der.specs.declared.bits.BitString.{BitString}
-use Rattle.der.specs.declared.integers.Integer.{Integer}
-use Rattle.der.specs.declared.integers.Integer.TheVariants.{Is}
+use Rattle.der.specs.declared.integers.BadInteger.{BadInteger}
+use Rattle.std.specs.Prelude.{Result, Ok, Option, Some, None}
 use Rattle.der.proofs.Tails.{octets_zeros, value_end}
 use Rattle.der.proofs.laws.Bits.{Cut, cut_is, cut_bad}
 
@@ -49,10 +49,6 @@ last_zeros (x ∷ s) u h g =
     let e : suc (length s) - 1 ≡ length s = omega arith in
     rw (e, unit_is u h, value_end x s u (omega arith))
 
--- a BIT STRING that is none
-pub none_is : {a : Address} (width : Width) → a ≡ address_of width 0 → ◌≡◌ {A = BitString} (record { read = false; count = 0; address = a }) (no_bits width)
-none_is width e = rw e
-
 -- zeros after s up to w bits are zeros after it up to sixteen octets
 module _ (w m : ℕ) (s : List ℕ) (d : w % 8 ≡ 0) (h : w ≤ 128) (e : w / 8 ≡ length s + m) (b : Octets s) where
   -- so they are those of the address
@@ -68,7 +64,7 @@ module _ (w m : ℕ) (s : List ℕ) (d : w % 8 ≡ 0) (h : w ≤ 128) (e : w / 8
 -- what `read` answers: c the contents, s what follows the initial octet
 module _ (width : Width) (c : List ℕ) where
   -- against a rule
-  refused : {r : BitString} → r ≡ no_bits width → (1 ≤ length c → Cut (bits width) (get_or c 0 0) (drop 1 c) → ⊥) → r ≡ bit_string_of width c
+  refused : {r : Option BitString} → r ≡ None → (1 ≤ length c → Cut (bits width) (get_or c 0 0) (drop 1 c) → ⊥) → r ≡ bit_string_of width c
   unfolding bit_string_of read_bits
   refused {r} e never = go (ltb (length c) 1) refl
     where
@@ -77,11 +73,11 @@ module _ (width : Width) (c : List ℕ) where
       go false q = rw (cut_bad (bits width) (get_or c 0 0) (drop 1 c) (never (ltb-false (length c) 1 q))) e
 
   -- there is no initial octet
-  pub refused_empty : {r : BitString} → r ≡ no_bits width → length c ≡ 0 → r ≡ bit_string_of width c
+  pub refused_empty : {r : Option BitString} → r ≡ None → length c ≡ 0 → r ≡ bit_string_of width c
   refused_empty e h = refused e (λ l k. omega arith)
 
   -- it is above 7
-  pub refused_initial : {r : BitString} → r ≡ no_bits width → 7 < get_or c 0 0 → r ≡ bit_string_of width c
+  pub refused_initial : {r : Option BitString} → r ≡ None → 7 < get_or c 0 0 → r ≡ bit_string_of width c
   refused_initial e h = refused e (λ l k. omega arith)
 
   -- the part that the code takes
@@ -89,25 +85,25 @@ module _ (width : Width) (c : List ℕ) where
   part = rest_of 1 c
 
   -- more than sixteen octets are more than 128 bits
-  pub refused_long : {r : BitString} → r ≡ no_bits width → 16 < length (take (length c - 1) (drop 1 c)) → r ≡ bit_string_of width c
+  pub refused_long : {r : Option BitString} → r ≡ None → 16 < length (take (length c - 1) (drop 1 c)) → r ≡ bit_string_of width c
   refused_long e h =
       let g : 16 < length (drop 1 c) = rw part at h in
       refused e (λ l k. omega (arith, width_octets width))
 
   -- more bits are left over than there are
-  pub refused_few : {r : BitString} → r ≡ no_bits width → 8 * length (take (length c - 1) (drop 1 c)) < get_or c 0 0 → r ≡ bit_string_of width c
+  pub refused_few : {r : Option BitString} → r ≡ None → 8 * length (take (length c - 1) (drop 1 c)) < get_or c 0 0 → r ≡ bit_string_of width c
   refused_few e h =
       let g : 8 * length (drop 1 c) < get_or c 0 0 = rw part at h in
       refused e (λ l k. omega arith)
 
   -- there are more bits than the width has
-  pub refused_wide : {r : BitString} {x : ℕ} → r ≡ no_bits width → x ≡ bits width → x < 8 * length (take (length c - 1) (drop 1 c)) - get_or c 0 0 → r ≡ bit_string_of width c
+  pub refused_wide : {r : Option BitString} {x : ℕ} → r ≡ None → x ≡ bits width → x < 8 * length (take (length c - 1) (drop 1 c)) - get_or c 0 0 → r ≡ bit_string_of width c
   refused_wide {r} {x} e f h =
       let g : x < 8 * length (drop 1 c) - get_or c 0 0 = rw part at h in
       refused e (λ l k. omega arith)
 
   -- a bit that is left over is set
-  pub refused_set : {r : BitString} {t : Bool} → r ≡ no_bits width → t ≡ eqb (value (take (length c - 1) (drop 1 c)) % 2 ^ get_or c 0 0) 0 → t ≡ false → r ≡ bit_string_of width c
+  pub refused_set : {r : Option BitString} {t : Bool} → r ≡ None → t ≡ eqb (value (take (length c - 1) (drop 1 c)) % 2 ^ get_or c 0 0) 0 → t ≡ false → r ≡ bit_string_of width c
   refused_set {r} {t} e f h =
       let g : eqb (value (drop 1 c) % 2 ^ get_or c 0 0) 0 ≡ false = rw part at (sym f ∙ h) in
       refused e (λ l k. eqb-false (value (drop 1 c) % 2 ^ get_or c 0 0) 0 g k.zeros)
@@ -116,12 +112,12 @@ module _ (width : Width) (c : List ℕ) where
 pub taken : (c : List ℕ) → ((k : ℕ) → get_or c k 0 < 256) → {o : List ℕ} {x : ℕ} {t : Bool} (width : Width) → (length c ≡ 0 → ⊥) → get_or c 0 0 ≤ 7 → get_or c 0 0 ≤ 8 * length (take (length c - 1) (drop 1 c))
     → x ≡ bits width → 8 * length (take (length c - 1) (drop 1 c)) - get_or c 0 0 ≤ x → t ≡ eqb (value (take (length c - 1) (drop 1 c)) % 2 ^ get_or c 0 0) 0 → t ≡ true
     → o ≡ take 16 (take (length c - 1) (drop 1 c)) ++ replicate (16 - length (take (length c - 1) (drop 1 c))) 0
-    → ◌≡◌ {A = BitString} (record { read = true; count = 8 * length (take (length c - 1) (drop 1 c)) - get_or c 0 0; address = record { width = width; octets = o } }) (bit_string_of width c)
+    → ◌≡◌ {A = Option BitString} (Some (record { count = 8 * length (take (length c - 1) (drop 1 c)) - get_or c 0 0; address = record { width = width; octets = o } })) (bit_string_of width c)
 unfolding bit_string_of read_bits Octets
 taken c b {o} {x} {t} width n u l f h g i q = go (drop 1 c) refl (rw (rest_of 1 c) at l) (rw (rest_of 1 c) at h) (rw (rest_of 1 c) at (sym g ∙ i)) (rw (rest_of 1 c) at q) (octets-drop 1 c b)
   where
     go : (s : List ℕ) → drop 1 c ≡ s → get_or c 0 0 ≤ 8 * length s → 8 * length s - get_or c 0 0 ≤ x → eqb (value s % 2 ^ get_or c 0 0) 0 ≡ true → o ≡ take 16 s ++ replicate (16 - length s) 0 → Octets s
-        → ◌≡◌ {A = BitString} (record { read = true; count = 8 * length (take (length c - 1) (drop 1 c)) - get_or c 0 0; address = record { width = width; octets = o } }) (bit_string_of width c)
+        → ◌≡◌ {A = Option BitString} (Some (record { count = 8 * length (take (length c - 1) (drop 1 c)) - get_or c 0 0; address = record { width = width; octets = o } })) (bit_string_of width c)
     go s p l h g q b =
         let w = width_octets width in
         let k : Cut (bits width) (get_or c 0 0) s = record { seven = u; some = l; fits = omega arith; zeros = eqb-true (value s % 2 ^ get_or c 0 0) 0 g } in
@@ -134,5 +130,5 @@ pub spelt : {x : ℕ} (c : List ℕ) → x ≡ value (take 8 c) → length c ≤
 spelt c e h = e ∙ ap value (take_all 8 c (omega arith))
 
 -- and what is answered of it
-pub is_as : (x n : ℕ) → x ≡ n → ◌≡◌ {A = Integer} (Is x) (Is n)
-is_as x n e = ap Is e
+pub is_as : (x n : ℕ) → x ≡ n → ◌≡◌ {A = Result ℕ BadInteger} (Ok x) (Ok n)
+is_as x n e = ap Ok e

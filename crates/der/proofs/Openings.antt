@@ -8,7 +8,8 @@ use native.Mathlib.Omega.{arith}
 use borrow.Author.Tests.{lt-ltb, le-ltb}
 use lib.Dec.{ltb}
 use Rattle.der.specs.Opening.{fitted}
-use Rattle.der.specs.declared.heads.Opening.{Opening}
+use Rattle.std.specs.Prelude.{Ok, Err}
+use Rattle.der.specs.Opening.{Opening}
 
 -- a call's answer for numbers that are equal
 pub fitted_as : {r : Opening} (l k n m : ℕ) → r ≡ fitted l k n → n ≡ m → r ≡ fitted l k m

@@ -1,10 +1,9 @@
 -- Octets written into a run, as the code of the three functions `put` writes them. Theorems. Assumes nothing.
---     Pasted       the invariant of the loop of `writing::put`.      paste_start, paste_turn, pasted      before it, after one octet more, at its end
---     past_end, past_room      nothing is written
+--     copied       what `writing::put` writes.      past_end, past_room      nothing is written
 --     few_octets, integer_put      what `integers::put` writes
 --     many_bits, bits_past, bits_room, bits_put        what `bits::put` writes
 use mathlib.Core.Path.{◌≡◌, sym, ap, ◌∙◌}
-use mathlib.Core.List.{List, [], ◌∷◌}
+use mathlib.Core.List.{List, [], ◌∷◌, append_assoc}
 use Prim.Native.Nat.{ℕ, ◌+◌, ◌-◌, ◌*◌, ◌/◌, ◌^◌, ◌≤◌, ◌<◌}
 use native.Mathlib.Nat.{lt_of_lt_of_le}
 use native.Mathlib.Omega.{arith}
@@ -12,7 +11,8 @@ use native.Mathlib.Numerals.{add-one}
 use borrow.Author.Tests.{lt-ltb}
 use lib.ListN.{length, take, drop, get_or, set, length-set}
 use lib.Pow.{pow_mono}
-use lib.Seq.{paste, paste-zero, paste-suc, take-length, length-take-le}
+use lib.Seq.{length-take-le, drop-drop}
+use borrow.Rule.Slice.PartMut.{put_mid}
 use Rattle.number.specs.Address.{sixteen, address_of}
 use Rattle.number.specs.declared.halves.Width.TheVariants.{Bits128}
 use Rattle.number.specs.declared.address.Address.{Address}
@@ -22,31 +22,11 @@ use Rattle.der.proofs.Tails.{last_octets}
 use Rattle.der.proofs.laws.Integers.{size_takes}
 use Rattle.der.proofs.laws.Writing.{written_fits, written_past, written_one, written_on, bits_written_lem}
 
--- l is the run `out` with the first k octets of s at `at`
-pub record Pasted (out : List ℕ) (at : ℕ) (s l : List ℕ) (k : ℕ) : Type 0 where
-  pub fits : at + length s ≤ length out
-  pub inside : k ≤ length s
-  pub size : length l ≡ length out
-  pub is : l ≡ paste out at s k
-
--- before the loop: the run as it was
-pub paste_start : (out : List ℕ) (at : ℕ) (s : List ℕ) → at ≤ length out → length s ≤ length out - at → Pasted out at s out 0
-paste_start out at s h g = record { fits = omega arith; inside = omega arith; size = omega arith; is = paste-zero out at s }
-
--- one octet more
-pub paste_turn : {out : List ℕ} {at : ℕ} {s l : List ℕ} {k : ℕ} (v : ℕ) → Pasted out at s l k → k < length s → v ≡ get_or s k 0 → Pasted out at s (set l (at + k) v) (k + 1)
-paste_turn {out} {at} {s} {l} {k} v h i e = record {
-  fits = h.fits;
-  inside = omega arith;
-  size = simp length-set h.size;
-  is = rw (h.is, e, add-one k) (paste-suc out at s k 0 (omega arith) i);
-}
-
--- all of them
-pub pasted : {out : List ℕ} {at : ℕ} {s l : List ℕ} {k : ℕ} → Pasted out at s l k → length s ≤ k → l ≡ written out at s
-pasted {out} {at} {s} {l} {k} h g =
-    let e : k ≡ length s = omega arith in
-    h.is ∙ rw (e, take-length s) (sym (written_fits out at s h.fits))
+-- the octets, where they fit
+pub copied : (out : List ℕ) (at n : ℕ) (s l : List ℕ) → at ≤ length out → (length out - at < length s → ⊥) → n ≡ length s → l ≡ s → put_mid at n out l ≡ written out at s
+copied out at n s l h g e f =
+    let m : at + length s ≤ length out = omega arith in
+    rw (e, f, written_fits out at s m) (simp (drop-drop, append_assoc))
 
 -- the place lies after the end
 pub past_end : (out : List ℕ) (at : ℕ) (s : List ℕ) → length out < at → out ≡ written out at s

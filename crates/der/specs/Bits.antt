@@ -1,5 +1,5 @@
 -- The contents of a BIT STRING that begins an address of w bits, w a multiple of 8. An address is a number below 2 ^ w.
-use Rattle.std.specs.Prelude.{ℕ, ◌+◌, ◌-◌, ◌*◌, ◌/◌, ◌%◌, ◌^◌, List, ◌∷◌, true, false, length, get_or, drop, ltb, eqb}
+use Rattle.std.specs.Prelude.{Option, Some, None, ℕ, ◌+◌, ◌-◌, ◌*◌, ◌/◌, ◌%◌, ◌^◌, List, ◌∷◌, length, get_or, drop, ltb, eqb}
 use Rattle.number.specs.Tests.{pick}
 use Rattle.number.specs.Halves.{bits}
 use Rattle.number.specs.Octets.{value, octets}
@@ -32,12 +32,9 @@ unfoldable pub read_bits : ℕ → List ℕ → Bits
 read_bits w c = pick (ltb (length c) 1) bad (cut w (get_or c 0 0) (drop 1 c))
 
 -- the same as the code answers it
-abbrev pub no_bits : Width → BitString
-no_bits width = record { read = false; count = 0; address = address_of width 0 }
+abbrev pub addressed : Width → Bits → Option BitString
+addressed width (begun n x) = Some (record { count = n; address = address_of width x })
+addressed width bad = None
 
-abbrev pub addressed : Width → Bits → BitString
-addressed width (begun n x) = record { read = true; count = n; address = address_of width x }
-addressed width bad = no_bits width
-
-unfoldable pub bit_string_of : Width → List ℕ → BitString
+unfoldable pub bit_string_of : Width → List ℕ → Option BitString
 bit_string_of width c = addressed width (read_bits (bits width) c)

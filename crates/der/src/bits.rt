@@ -1,7 +1,7 @@
 // The contents of a BIT STRING that begins an address (X.690, sections 8.6 and 11.2).
 ghost use Rattle.std.specs.Prelude.{◌≡◌, ◌+◌, ◌-◌, ◌*◌, ◌/◌, ◌%◌, ◌^◌, ◌<◌, ◌≤◌, ◌++◌, length, get_or, take, drop, replicate, eqb};
 ghost use Rattle.number.specs.Octets.{value};
-ghost use Rattle.der.specs.Bits.{no_bits, bit_string_of, bits_size};
+ghost use Rattle.der.specs.Bits.{bit_string_of, bits_size};
 ghost use Rattle.der.specs.Written.{bits_written};
 
 use crate::writing;
@@ -9,18 +9,11 @@ use number::address::Address;
 use number::halves::{Halves, Width};
 use number::{address, halves};
 
-// The address that the bits begin, zeros after them, and how many bits they are; `read` is false where the contents are against the rules.
+// The address that the bits begin, zeros after them, and how many bits they are.
 #[derive(Clone, Copy)]
 pub struct BitString {
-    pub read: bool,
     pub count: u32,
     pub address: Address,
-}
-
-fn wide(x: u8) -> u64
-    ensures { (result ≡ x) × (result < 256) }
-{
-    x as u64
 }
 
 // Octet k of s, 0 past its end.
@@ -28,7 +21,7 @@ fn octet_or_zero(s: &[u8], k: usize) -> u64
     ensures { (result ≡ get_or s.now k 0) × (result < 256) }
 {
     if k < s.len() {
-        return wide(s[k]);
+        return u64::from(s[k]);
     }
     0
 }
@@ -38,10 +31,8 @@ fn padded(s: &[u8]) -> u64
     ensures { result ≡ value (take 8 s.now ++ replicate (8 - length s.now) 0) }
 {
     let mut n: u64 = 0;
-    let mut k: usize = 0;
-    while k < 8 {
+    for k in 0..8 {
         n = n * 256 + octet_or_zero(s, k);
-        k += 1;
     }
     n
 }
@@ -87,60 +78,42 @@ fn ends_in_zeros(octets: &[u8], unused: u8) -> bool
     requires { unused < 8 }
     ensures { result ≡ eqb (value octets.now % 2 ^ unused) 0 }
 {
-    if octets.len() == 0 {
-        return true;
-    }
-    let last = octets.len() - 1;
-    octets[last] % (1u8 << unused) == 0
+    octets.len() == 0 || octets[octets.len() - 1] % (1u8 << unused) == 0
 }
 
-fn none(width: Width) -> BitString
-    ensures { result ≡ no_bits width }
-{
-    let address = address::from_halves(width, Halves { upper: 0, lower: 0 });
-    BitString {
-        read: false,
-        count: 0,
-        address: address,
-    }
-}
-
-// Returns the address that the contents of a BIT STRING begin: "at most 32 or 128 bits; unused bits 0 to 7, all zero; with no octets the initial octet is 0".
-pub fn read(width: Width, contents: &[u8]) -> BitString
+// Returns the address that the contents of a BIT STRING begin, or none where they are against the rules: "at most 32 or 128 bits; unused bits 0 to 7, all zero; with no octets the
+// initial octet is 0".
+pub fn read(width: Width, contents: &[u8]) -> Option<BitString>
     ensures { result ≡ bit_string_of width contents.now }
 {
     if contents.len() == 0 {
-        return none(width);
+        return None;
     }
     let unused = contents[0];
     if 7 < unused {
-        return none(width);
+        return None;
     }
     let octets = &contents[1..];
     if 16 < octets.len() {
-        return none(width);
+        return None;
     }
     // Before the tests that are left: what stands behind many tests is compiled as seldom reached.
     let address = Address {
-        width: width,
+        width,
         octets: sixteen(octets),
     };
     let all = 8 * (octets.len() as u32);
     if all < unused as u32 {
-        return none(width);
+        return None;
     }
     let count = all - unused as u32;
     if halves::bits(width) < count {
-        return none(width);
+        return None;
     }
     if ends_in_zeros(octets, unused) {
-        return BitString {
-            read: true,
-            count: count,
-            address: address,
-        };
+        return Some(BitString { count, address });
     }
-    none(width)
+    None
 }
 
 // Returns how many octets the contents of a BIT STRING of so many bits take.

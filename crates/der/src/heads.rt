@@ -7,17 +7,7 @@ ghost use Rattle.der.specs.Written.{head_written};
 use number::refusal::Refusal;
 
 // Where the contents of an element start and where they end, in octets from its tag.
-#[derive(Clone, Copy)]
-pub enum Opening {
-    Is(usize, usize),
-    Bad(Refusal),
-}
-
-fn size(x: u8) -> usize
-    ensures { (result ≡ x) × (result < 256) }
-{
-    x as usize
-}
+pub type Opening = Result<(usize, usize), Refusal>;
 
 // Contents of n octets that start at k, in `len` octets.
 fn fit(len: usize, k: usize, n: usize) -> Opening
@@ -25,9 +15,9 @@ fn fit(len: usize, k: usize, n: usize) -> Opening
     ensures { result ≡ fitted len k n }
 {
     if len - k < n {
-        return Opening::Bad(Refusal::Element);
+        return Err(Refusal::Element);
     }
-    Opening::Is(k, k + n)
+    Ok((k, k + n))
 }
 
 // "Lengths are definite and minimal: 0 to 127 in one octet, then 81, then 82." The tag is passed over.
@@ -35,33 +25,33 @@ fn length_of(s: &[u8]) -> Opening
     ensures { result ≡ length_of s.now }
 {
     if s.len() < 2 {
-        return Opening::Bad(Refusal::Element);
+        return Err(Refusal::Element);
     }
-    let a = size(s[1]);
+    let a = usize::from(s[1]);
     if a < 0x80 {
         return fit(s.len(), 2, a);
     }
     if a == 0x81 {
         if s.len() < 3 {
-            return Opening::Bad(Refusal::Element);
+            return Err(Refusal::Element);
         }
-        let b = size(s[2]);
+        let b = usize::from(s[2]);
         if b < 0x80 {
-            return Opening::Bad(Refusal::Element);
+            return Err(Refusal::Element);
         }
         return fit(s.len(), 3, b);
     }
     if a == 0x82 {
         if s.len() < 4 {
-            return Opening::Bad(Refusal::Element);
+            return Err(Refusal::Element);
         }
-        let n = size(s[2]) * 256 + size(s[3]);
+        let n = usize::from(s[2]) * 256 + usize::from(s[3]);
         if n < 256 {
-            return Opening::Bad(Refusal::Element);
+            return Err(Refusal::Element);
         }
         return fit(s.len(), 4, n);
     }
-    Opening::Bad(Refusal::Element)
+    Err(Refusal::Element)
 }
 
 // Returns where the contents of the element at the start of s begin and end, if its tag is `tag`.
@@ -70,12 +60,12 @@ pub fn open(tag: u8, s: &[u8]) -> Opening
     ensures { result ≡ opening_of tag s.now }
 {
     if s.len() == 0 {
-        return Opening::Bad(Refusal::Element);
+        return Err(Refusal::Element);
     }
     if s[0] == tag {
         return length_of(s);
     }
-    Opening::Bad(Refusal::Tag)
+    Err(Refusal::Tag)
 }
 
 // Returns how many octets the head of contents of n octets has.

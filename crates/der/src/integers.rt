@@ -2,57 +2,59 @@
 ghost use Rattle.std.specs.Prelude.{◌≡◌};
 ghost use Rattle.der.specs.Integer.{padded, integer_of, integer_size, integer_octets};
 ghost use Rattle.der.specs.Written.{written};
+ghost use Rattle.number.specs.declared.refusal.Refusal.TheVariants as variants;
 
 use crate::writing;
 use number::address;
 use number::halves::{Halves, Width};
+use number::refusal::Refusal;
 
-// What an INTEGER is, or why it is none. Today each cause is refusal 4.
-#[derive(Clone, Copy)]
-pub enum Integer {
-    Is(u32),
+// Why the contents are no INTEGER from 0 to 4,294,967,295.
+#[derive(Clone, Copy, PartialEq, Eq)]
+pub enum BadInteger {
     Empty,
     Negative,
     Padded,
     TooLarge,
 }
 
+// Today each cause is refusal 4.
+impl From<BadInteger> for Refusal {
+    ghost from_gives = { λ _ refusal. refusal ≡ variants.Contents };
+
+    fn from(_cause: BadInteger) -> Refusal {
+        Refusal::Contents
+    }
+}
+
 // Whether the first octet could be left out: it is 0, and the next one does not begin with a set bit.
 fn is_padded(contents: &[u8]) -> bool
     ensures { result ≡ padded contents.now }
 {
-    if 1 < contents.len() {
-        if contents[0] == 0 {
-            contents[1] < 128
-        } else {
-            false
-        }
-    } else {
-        false
-    }
+    1 < contents.len() && contents[0] == 0 && contents[1] < 128
 }
 
-// Returns the number that the contents of an INTEGER are.
-pub fn read(contents: &[u8]) -> Integer
+// Returns the number that the contents of an INTEGER are, or why they are none.
+pub fn read(contents: &[u8]) -> Result<u32, BadInteger>
     ensures { result ≡ integer_of contents.now }
 {
     if contents.len() == 0 {
-        return Integer::Empty;
+        return Err(BadInteger::Empty);
     }
     if 128 <= contents[0] {
-        return Integer::Negative;
+        return Err(BadInteger::Negative);
     }
     if is_padded(contents) {
-        return Integer::Padded;
+        return Err(BadInteger::Padded);
     }
     if 5 < contents.len() {
-        return Integer::TooLarge;
+        return Err(BadInteger::TooLarge);
     }
     let x = address::spelled(contents);
     if 4294967295 < x {
-        return Integer::TooLarge;
+        return Err(BadInteger::TooLarge);
     }
-    Integer::Is(x as u32)
+    Ok(x as u32)
 }
 
 // Returns how many octets the contents of an INTEGER take.

@@ -21,7 +21,7 @@ pub fn element_at(value: &[u8], at: usize, tag: u8) -> Opening
     ensures { result ≡ element_at value.now at tag }
 {
     if value.len() < at {
-        return Opening::Bad(Refusal::Element);
+        return Err(Refusal::Element);
     }
     heads::open(tag, &value[at..])
 }

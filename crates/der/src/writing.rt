@@ -12,9 +12,5 @@ pub fn put(out: &mut [u8], at: usize, s: &[u8])
     if out.len() - at < s.len() {
         return;
     }
-    let mut k: usize = 0;
-    while k < s.len() {
-        out[at + k] = s[k];
-        k += 1;
-    }
+    out[at..at + s.len()].copy_from_slice(s);
 }

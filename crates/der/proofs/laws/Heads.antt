@@ -20,9 +20,9 @@ use Rattle.number.proofs.Picks.{below, pick_not, pick_is}
 use Rattle.number.proofs.laws.Octets.{octets_tail}
 use Rattle.der.specs.Head.{found, fault, head, body, length_octets, element, head_octets, head_size}
 use Rattle.der.specs.Opening.{faulty, fitted, length_of, opening_of, seen}
-use Rattle.der.specs.declared.heads.Opening.{Opening}
-use Rattle.der.specs.declared.heads.Opening.TheVariants.{Is, Bad}
 use Rattle.der.proofs.Tails.{octets_right}
+use Rattle.std.specs.Prelude.{Ok, Err}
+use Rattle.der.specs.Opening.{Opening}
 
 -- what a length of at most three octets can say
 abbrev pub Sized : List ℕ → Type 0
@@ -198,22 +198,23 @@ pub record Opens (s : List ℕ) (k e : ℕ) : Type 0 where
   pub inside : e ≤ length s
 
 -- a refusal says no place
-pub not_is : {r : Refusal} {k e : ℕ} → Bad r ≡ Is k e → ⊥
+pub not_is : {r : Refusal} {k e : ℕ} → ◌≡◌ {A = Opening} (Err r) (Ok (k, e)) → ⊥
 not_is h = let z : ◌≡◌ {A = ℕ} 0 1 = cc in omega arith
 
 -- by the contents
-fitted_opens : (s : List ℕ) (j n k e : ℕ) → 2 ≤ j → j ≤ length s → fitted (length s) j n ≡ Is k e → Opens s k e
+fitted_opens : (s : List ℕ) (j n k e : ℕ) → 2 ≤ j → j ≤ length s → fitted (length s) j n ≡ Ok (k, e) → Opens s k e
 unfolding fitted
 fitted_opens s j n k e l m h =
     let p = pick_not (ltb (length s - j) n) _ faulty _ not_is h in
     let g = p.1 in
-    let a : j ≡ k = cc in
-    let b : j + n ≡ e = cc in
+    let t : ◌≡◌ {A = ℕ × ℕ} (j, j + n) (k, e) = cc in
+    let a : j ≡ k = ap (λ (p : ℕ × ℕ). p.0) t in
+    let b : j + n ≡ e = ap (λ (p : ℕ × ℕ). p.1) t in
     let q = ltb-false (length s - j) n p.0 in
     record { start = omega arith; order = omega arith; inside = omega arith }
 
 -- by the length
-length-opens : (s : List ℕ) (k e : ℕ) → length_of s ≡ Is k e → Opens s k e
+length-opens : (s : List ℕ) (k e : ℕ) → length_of s ≡ Ok (k, e) → Opens s k e
 unfolding length_of
 length-opens s k e h =
     let p = pick_not (ltb (length s) 2) _ faulty _ not_is h in
@@ -223,7 +224,7 @@ length-opens s k e h =
         pick x (fitted (length s) 2 (get_or s 1 0))
         (pick y (pick (ltb (length s) 3) faulty (pick (ltb (get_or s 2 0) 0x80) faulty (fitted (length s) 3 (get_or s 2 0))))
         (pick z (pick (ltb (length s) 4) faulty (pick (ltb (get_or s 2 0 * 256 + get_or s 3 0) 256) faulty (fitted (length s) 4 (get_or s 2 0 * 256 + get_or s 3 0)))) faulty))
-        ≡ Is k e → Opens s k e
+        ≡ Ok (k, e) → Opens s k e
     go true y z l h = fitted_opens s 2 (get_or s 1 0) k e (omega arith) l h
     go false true z l h =
         let p = pick_not (ltb (length s) 3) _ faulty _ not_is h in
@@ -236,13 +237,13 @@ length-opens s k e h =
     go false false false l h = absurd (not_is h)
 
 -- and by the tag: what `opening_of` says
-pub opening_opens : (tag : ℕ) (s : List ℕ) (k e : ℕ) → opening_of tag s ≡ Is k e → Opens s k e
+pub opening_opens : (tag : ℕ) (s : List ℕ) (k e : ℕ) → opening_of tag s ≡ Ok (k, e) → Opens s k e
 unfolding opening_of
 opening_opens tag s k e h =
     let p = pick_not (eqb (length s) 0) _ faulty _ not_is h in
-    let q = pick_is (eqb (get_or s 0 0) tag) _ _ (Bad refusal.Tag) not_is p.1 in
+    let q = pick_is (eqb (get_or s 0 0) tag) _ _ (Err refusal.Tag) not_is p.1 in
     length-opens s k e q.1
 
 -- the same for what a call gave
-pub opens : {r : Opening} (tag : ℕ) (s : List ℕ) (k e : ℕ) → r ≡ opening_of tag s → r ≡ Is k e → Opens s k e
+pub opens : {r : Opening} (tag : ℕ) (s : List ℕ) (k e : ℕ) → r ≡ opening_of tag s → r ≡ Ok (k, e) → Opens s k e
 opens tag s k e p q = opening_opens tag s k e (sym p ∙ q)

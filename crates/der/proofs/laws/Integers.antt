@@ -19,7 +19,8 @@ use Rattle.number.specs.Octets.{Octets, value, octets}
 use Rattle.number.proofs.Picks.{below}
 use Rattle.number.proofs.laws.Octets.{octets-length, octets_value, octets_tail, value_below, value_octets_lem}
 use Rattle.der.specs.Integer.{padded, integer_of, integer_size, integer_octets}
-use Rattle.der.specs.declared.integers.Integer.TheVariants.{Is, Empty, Negative, Padded, TooLarge}
+use Rattle.der.specs.declared.integers.BadInteger.TheVariants.{Empty, Negative, Padded, TooLarge}
+use Rattle.std.specs.Prelude.{Ok, Err}
 
 -- v takes m octets after its first: with fewer the first bit would be set, and with these it is not
 pub record Takes (v m : ℕ) : Type 0 where
@@ -94,7 +95,7 @@ not_padded x (suc j) k = rw (lt-ltb 1 (suc (suc (length (octets j (x % 2 ^ (8 * 
     go false e = refl
 
 -- and they are taken
-taken : (x m : ℕ) → x ≤ 4294967295 → m ≤ 4 → Takes x m → integer_of (octets (suc m) x) ≡ Is x
+taken : (x m : ℕ) → x ≤ 4294967295 → m ≤ 4 → Takes x m → integer_of (octets (suc m) x) ≡ Ok x
 unfolding integer_of
 taken x m s f k =
     let l : length (octets (suc m) x) ≡ suc m = octets-length (suc m) x in
@@ -102,7 +103,7 @@ taken x m s f k =
     rw (v, ne_eqb (length (octets (suc m) x)) 0 (omega arith), lt-leb 128 (x / 2 ^ (8 * m)) (shr_lt 7 (8 * m) k.above), not_padded x m k, le-ltb 5 (length (octets (suc m) x)) (omega arith), le-ltb 4294967295 x s)
 
 -- what was written is read
-pub integer_read : (x : ℕ) → x ≤ 4294967295 → integer_of (integer_octets x) ≡ Is x
+pub integer_read : (x : ℕ) → x ≤ 4294967295 → integer_of (integer_octets x) ≡ Ok x
 unfolding integer_octets
 integer_read x s = let (m, e, f, k) = size_takes x s in rw e (taken x m s f k)
 
@@ -114,12 +115,12 @@ pub record Read (a : ℕ) (s : List ℕ) (x : ℕ) : Type 0 where
   pub is : value (a ∷ s) ≡ x
 
 -- each was passed
-read_tests : (a : ℕ) (s : List ℕ) (x : ℕ) → integer_of (a ∷ s) ≡ Is x → Read a s x
+read_tests : (a : ℕ) (s : List ℕ) (x : ℕ) → integer_of (a ∷ s) ≡ Ok x → Read a s x
 unfolding integer_of
 read_tests a s x h = go (eqb (suc (length s)) 0) (leb 128 a) (padded (a ∷ s)) (ltb 5 (suc (length s))) (ltb 4294967295 (value (a ∷ s))) refl refl refl h
   where
     go : (p q r t u : Bool) → leb 128 a ≡ q → padded (a ∷ s) ≡ r → ltb 4294967295 (value (a ∷ s)) ≡ u
-        → pick p Empty (pick q Negative (pick r Padded (pick t TooLarge (pick u TooLarge (Is (value (a ∷ s))))))) ≡ Is x → Read a s x
+        → pick p (Err Empty) (pick q (Err Negative) (pick r (Err Padded) (pick t (Err TooLarge) (pick u (Err TooLarge) (Ok (value (a ∷ s))))))) ≡ Ok x → Read a s x
     go true q r t u e f g h = let z : ◌≡◌ {A = ℕ} 0 1 = cc in absurd (omega arith)
     go false true r t u e f g h = let z : ◌≡◌ {A = ℕ} 0 1 = cc in absurd (omega arith)
     go false false true t u e f g h = let z : ◌≡◌ {A = ℕ} 0 1 = cc in absurd (omega arith)
@@ -128,7 +129,7 @@ read_tests a s x h = go (eqb (suc (length s)) 0) (leb 128 a) (padded (a ∷ s)) 
     go false false false false false e f g h = record { positive = leb-false 128 a e; minimal = f; small = ltb-false 4294967295 (value (a ∷ s)) g; is = cc }
 
 -- what is read was written
-pub read_integer : (c : List ℕ) (x : ℕ) → Octets c → integer_of c ≡ Is x → (c ≡ integer_octets x) × (x ≤ 4294967295)
+pub read_integer : (c : List ℕ) (x : ℕ) → Octets c → integer_of c ≡ Ok x → (c ≡ integer_octets x) × (x ≤ 4294967295)
 unfolding integer_of integer_octets
 read_integer [] x b h = let z : ◌≡◌ {A = ℕ} 0 1 = cc in absurd (omega arith)
 read_integer (a ∷ s) x b h =
