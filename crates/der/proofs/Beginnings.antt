@@ -16,9 +16,8 @@ use borrow.Author.Tests.{eq-eqb, le-ltb, ltb-false, eqb-true, eqb-false}
 use Rattle.number.specs.Tests.{pick}
 use Rattle.number.specs.Halves.{bits}
 use Rattle.number.specs.Octets.{Octets, value}
-use Rattle.number.specs.Address.{address_of, sixteen}
+use Rattle.number.specs.Address.{sixteen}
 use Rattle.number.specs.declared.halves.Width.{Width}
-use Rattle.number.specs.declared.address.Address.{Address}
 use Rattle.number.proofs.Picks.{rest_of}
 use Rattle.number.proofs.Sixteen.{width_octets}
 use Rattle.number.proofs.laws.Octets.{value_below, octets-drop}

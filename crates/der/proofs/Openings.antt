@@ -8,7 +8,6 @@ use native.Mathlib.Omega.{arith}
 use borrow.Author.Tests.{lt-ltb, le-ltb}
 use lib.Dec.{ltb}
 use Rattle.der.specs.Opening.{fitted}
-use Rattle.std.specs.Prelude.{Ok, Err}
 use Rattle.der.specs.Opening.{Opening}
 
 -- a call's answer for numbers that are equal

@@ -9,7 +9,6 @@ use lib.ListN.{length, take, drop, drop_of_length-le}
 use Rattle.number.proofs.Picks.{rest_of}
 use Rattle.der.specs.Opening.{faulty, opening_of}
 use Rattle.der.specs.Reader.{element_at}
-use Rattle.std.specs.Prelude.{Ok, Err}
 use Rattle.der.specs.Opening.{Opening}
 
 -- past the end of the value no tag is there

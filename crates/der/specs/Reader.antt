@@ -2,7 +2,6 @@
 -- What a reader finds at its place, and how many octets are left there. Past the end of the value there are none.
 use Rattle.std.specs.Prelude.{ℕ, ◌-◌, List, length, drop}
 use Rattle.der.specs.Opening.{opening_of}
-use Rattle.std.specs.Prelude.{Ok, Err}
 use Rattle.der.specs.Opening.{Opening}
 
 -- the element of a tag at a place of a value; past the end "tag or length missing"

@@ -1,24 +1,19 @@
 -- What an answer of the code says of the definition's answer, and of the table. Theorems. Assumes nothing.
 --     rows_on, count_on             rows, and then others.     Denied, Granted      a refusal, and what was read
 --     chosen_bad, chosen_rows       by `ChosenInto`.     counted_bad, counted_rows     by `CountedInto`.      family_bad, family_rows      by `FamilyInto`
-use mathlib.Core.Path.{◌≡◌, refl, sym, ◌∙◌}
+use mathlib.Core.Path.{◌≡◌, refl, sym, ap, ◌∙◌}
 use mathlib.Core.List.{List, ◌++◌}
 use Prim.Native.Nat.{ℕ, ◌+◌, ◌≤◌}
 use native.Mathlib.Omega.{arith}
 use lib.ListN.{length, drop, length-append}
-use Rattle.number.specs.declared.refusal.Refusal.{Refusal}
 use Rattle.table.specs.Rows.{Row, with_rows}
 use Rattle.table.proofs.laws.Rows.{with_rows-append}
 use Rattle.der.specs.Parts.{Contents, is, isnt, Part, part, nopart}
-use Rattle.values.specs.Faults.{Fault, at}
+use Rattle.values.specs.Faults.{Fault}
 use Rattle.values.specs.Choices.{Choice, choice_rows}
 use Rattle.values.specs.Into.{Stands, CountedInto, ChosenInto, FamilyInto}
-use Rattle.values.specs.declared.elements.Counted.{Counted}
-use Rattle.values.specs.declared.elements.Counted.TheVariants as counted
-use Rattle.values.specs.declared.choices.Chosen.{Chosen}
-use Rattle.values.specs.declared.choices.Chosen.TheVariants as chosen
-use Rattle.values.specs.declared.blocks.Family.{Family}
-use Rattle.values.specs.declared.blocks.Family.TheVariants as family
+use Rattle.values.specs.Faults.{Read, Taken}
+use Rattle.std.specs.Prelude.{Ok, Err}
 
 -- rows, and then others
 pub rows_on : (t : List ℕ) {t' t'' : List ℕ} (n : ℕ) {m : ℕ} (rs qs : List Row) → t' ≡ with_rows t n rs → m ≡ n + length rs → t'' ≡ with_rows t' m qs → t'' ≡ with_rows t n (rs ++ qs)
@@ -42,44 +37,43 @@ pub record Granted {X O : Type 0} (rows : X → List Row) (made : X → O) (o : 
   pub table : t' ≡ with_rows t n (rows read)
   pub stands : Stands t t'
 
-module _ {X : Type 0} (rows : X → List Row) (m n : ℕ) (t t' : List ℕ) (r : Counted) where
-  pub counted_bad : (o : Contents X Fault) → CountedInto rows m n t o r t' → (f : Refusal) (q : ℕ) → r ≡ counted.Bad f q → Denied m o (isnt (at q f)) q t t'
-  counted_bad (is x) (e, p, h) f q u = let z : ◌≡◌ {A = ℕ} 0 1 = cc in absurd (omega arith)
-  counted_bad (isnt g) (e, l, h) f q u =
-      let v : f ≡ g.0 = cc in
-      let w : q ≡ g.1 = cc in
-      rw (v, w) (record { was = refl; inside = l; stands = h })
+module _ {X : Type 0} (rows : X → List Row) (m n : ℕ) (t t' : List ℕ) (r : Read ℕ) where
+  pub counted_bad : (o : Contents X Fault) → CountedInto rows m n t o r t' → (f : Fault) → r ≡ Err f → Denied m o (isnt f) f.place t t'
+  counted_bad (is x) (e, p, h) f u = let z : ◌≡◌ {A = ℕ} 0 1 = cc in absurd (omega arith)
+  counted_bad (isnt g) (e, l, h) f u =
+      let v : f ≡ g = cc in
+      rw v (record { was = refl; inside = l; stands = h })
 
-  pub counted_rows : (o : Contents X Fault) → CountedInto rows m n t o r t' → (k : ℕ) → r ≡ counted.Rows k → Granted rows is o n k t t'
+  pub counted_rows : (o : Contents X Fault) → CountedInto rows m n t o r t' → (k : ℕ) → r ≡ Ok k → Granted rows is o n k t t'
   counted_rows (is x) (e, p, h) k u = record { read = x; was = refl; count = cc; table = p; stands = h }
   counted_rows (isnt g) (e, l, h) k u = let z : ◌≡◌ {A = ℕ} 0 1 = cc in absurd (omega arith)
 
-module _ (a : ℕ) (s : List ℕ) (n : ℕ) (t t' : List ℕ) (r : Chosen) where
-  pub chosen_bad : (o : Part Choice Fault) → ChosenInto a s n t o r t' → (f : Refusal) (q : ℕ) → r ≡ chosen.Bad f q → Denied (length s) o (nopart (at q f)) q t t'
-  chosen_bad (part c rest) h f q u = let e = h.answer in let z : ◌≡◌ {A = ℕ} 0 1 = cc in absurd (omega arith)
-  chosen_bad (nopart g) (e, l, h) f q u =
-      let v : f ≡ g.0 = cc in
-      let w : q ≡ g.1 = cc in
-      rw (v, w) (record { was = refl; inside = l; stands = h })
+module _ (a : ℕ) (s : List ℕ) (n : ℕ) (t t' : List ℕ) (r : Taken ℕ) where
+  pub chosen_bad : (o : Part Choice Fault) → ChosenInto a s n t o r t' → (f : Fault) → r ≡ Err f → Denied (length s) o (nopart f) f.place t t'
+  chosen_bad (part c rest) h f u = let e = h.answer in let z : ◌≡◌ {A = ℕ} 0 1 = cc in absurd (omega arith)
+  chosen_bad (nopart g) (e, l, h) f u =
+      let v : f ≡ g = cc in
+      rw v (record { was = refl; inside = l; stands = h })
 
-  pub chosen_rows : (o : Part Choice Fault) → ChosenInto a s n t o r t' → (m j : ℕ) → r ≡ chosen.Rows m j → Granted (choice_rows a) (λ c. part c (drop j s)) o n m t t' × (j ≤ length s)
+  pub chosen_rows : (o : Part Choice Fault) → ChosenInto a s n t o r t' → (m j : ℕ) → r ≡ Ok (m, j) → Granted (choice_rows a) (λ c. part c (drop j s)) o n m t t' × (j ≤ length s)
   chosen_rows (part c rest) h m j u =
-      let e = h.answer in
-      let v : j ≡ h.end = cc in
-      (record { read = c; was = rw (v, ← h.over); count = cc; table = h.table; stands = h.stands }, rw v h.inside)
+      let e : ◌≡◌ {A = ℕ × ℕ} (m, j) (n + length (choice_rows a c), h.end) = let q = h.answer in cc in
+      let w : m ≡ n + length (choice_rows a c) = ap (λ (p : ℕ × ℕ). p.0) e in
+      let v : j ≡ h.end = ap (λ (p : ℕ × ℕ). p.1) e in
+      (record { read = c; was = rw (v, ← h.over); count = w; table = h.table; stands = h.stands }, rw v h.inside)
   chosen_rows (nopart g) (e, l, h) m j u = let z : ◌≡◌ {A = ℕ} 0 1 = cc in absurd (omega arith)
 
-module _ (m n : ℕ) (t t' : List ℕ) (r : Family) where
-  pub family_bad : (o : Contents (ℕ × Choice) Fault) → FamilyInto m n t o r t' → (f : Refusal) (q : ℕ) → r ≡ family.Bad f q → Denied m o (isnt (at q f)) q t t'
-  family_bad (is x) (e, p, h, i) f q u = let z : ◌≡◌ {A = ℕ} 0 1 = cc in absurd (omega arith)
-  family_bad (isnt g) (e, l, h) f q u =
-      let v : f ≡ g.0 = cc in
-      let w : q ≡ g.1 = cc in
-      rw (v, w) (record { was = refl; inside = l; stands = h })
+module _ (m n : ℕ) (t t' : List ℕ) (r : Read (ℕ × ℕ)) where
+  pub family_bad : (o : Contents (ℕ × Choice) Fault) → FamilyInto m n t o r t' → (f : Fault) → r ≡ Err f → Denied m o (isnt f) f.place t t'
+  family_bad (is x) (e, p, h, i) f u = let z : ◌≡◌ {A = ℕ} 0 1 = cc in absurd (omega arith)
+  family_bad (isnt g) (e, l, h) f u =
+      let v : f ≡ g = cc in
+      rw v (record { was = refl; inside = l; stands = h })
 
-  pub family_rows : (o : Contents (ℕ × Choice) Fault) → FamilyInto m n t o r t' → (a k : ℕ) → r ≡ family.Rows a k → Granted (choice_rows a) (λ c. is (a, c)) o n k t t' × (a ≤ 4095)
+  pub family_rows : (o : Contents (ℕ × Choice) Fault) → FamilyInto m n t o r t' → (a k : ℕ) → r ≡ Ok (a, k) → Granted (choice_rows a) (λ c. is (a, c)) o n k t t' × (a ≤ 4095)
   family_rows (is x) (e, l, p, h) a k u =
-      let v : a ≡ x.0 = cc in
-      let w : k ≡ n + length (choice_rows x.0 x.1) = cc in
+      let v : ◌≡◌ {A = ℕ × ℕ} (a, k) (x.0, n + length (choice_rows x.0 x.1)) = cc in
+      let w : k ≡ n + length (choice_rows x.0 x.1) = ap (λ (p : ℕ × ℕ). p.1) v in
+      let v : a ≡ x.0 = ap (λ (p : ℕ × ℕ). p.0) v in
       rw v (record { read = x.1; was = refl; count = w; table = p; stands = h }, l)
   family_rows (isnt g) (e, l, h) a k u = let z : ◌≡◌ {A = ℕ} 0 1 = cc in absurd (omega arith)

@@ -27,7 +27,7 @@ use Rattle.der.specs.Bits.{begun, read_bits, bits_of}
 use Rattle.der.proofs.Tails.{sixteen_parts}
 use Rattle.der.proofs.laws.Bits.{Begins, Cut, cut_is, bits_of_lem}
 use Rattle.values.specs.Briefs.{is_brief, Starts, Within, placed_bits, BriefBits}
-use Rattle.values.specs.declared.brief_addresses.Brief.{Brief}
+use Rattle.std.specs.Prelude.{Some}
 use Rattle.values.proofs.BriefReads.{brief_long, brief_tag, brief_least, brief_most, headed, of_eight}
 use Rattle.values.proofs.BriefSpans.{placed_within, placed_at}
 
@@ -46,10 +46,6 @@ placed_octets Bits128 x b z = ap (sixteen 128) (sym (ap (λ (y : ℕ). y / 2 ^ 6
 pub placed_is : {a : Address} (width : Width) (x : ℕ) → x < 2 ^ 64 → Within (bits width) x → a ≡ address_of Bits128 (x * 2 ^ 64 + 0)
     → ◌≡◌ {A = Address} (record { width = width; octets = a.octets }) (address_of width (placed_bits (bits width) x))
 placed_is {a} width x b z e = ap (λ (s : List ℕ). record { width = width; octets = s }) (ap (λ (a : Address). a.octets) e ∙ ap (sixteen 128) (add-zero (x * 2 ^ 64)) ∙ placed_octets width x b z)
-
--- nothing was taken
-pub none_taken : (b : Brief) (w : ℕ) (s : List ℕ) → b.taken ≡ 0 → b.bits ≡ 0 → BriefBits w s b
-none_taken b w s e z = (rw z (omega arith), λ h. absurd (omega arith))
 
 -- zeros in the place of u bits, before j others
 zeros_of : (v u j : ℕ) → v * 2 ^ j % 2 ^ (u + j) ≡ 0 → v % 2 ^ u ≡ 0
@@ -104,7 +100,7 @@ module _ {t : Bool} (s : List ℕ) (p : t ≡ is_brief BIT_STRING 2 9 s) (y : t 
       -- it was read
       pub string_took : {n x : ℕ} {own : Halves} (width : Width) → Octets s → n ≡ bits width → 8 * (v - 1) - u ≤ n → x ≡ value (take 8 (take 8 (drop 3 s)))
           → own ≡ halves (zero_filled 128 (8 * (v - 1)) (x * 2 ^ 64 + 0)) → own.upper < 2 ^ 64 → own.upper % (1 * 2 ^ (64 - (8 * (v - 1) - u)) % 2 ^ 64) ≡ 0
-          → BriefBits (bits width) s (record { taken = 3 + (v - 1); count = 8 * (v - 1) - u; bits = own.upper })
+          → BriefBits (bits width) s (Some (record { count = 8 * (v - 1) - u; bits = own.upper }, 3 + (v - 1)))
       string_took {n} {x} {own} width o d g i c h z =
           let long = brief_long BIT_STRING 2 9 s p y in
           let least = brief_least BIT_STRING 2 9 s p y in
@@ -130,4 +126,4 @@ module _ {t : Bool} (s : List ℕ) (p : t ≡ is_brief BIT_STRING 2 9 s) (y : t 
           let string : take v (drop 2 s) ≡ bits_of (bits width) (8 * (v - 1) - u) (placed_bits (bits width) r) = rw (whole_of, number, ← f) at t in
           let all = headed v s (omega arith) (sym e) (omega arith) in
           let starts : Starts s (3 + (v - 1)) (element BIT_STRING (bits_of (bits width) (8 * (v - 1) - u) (placed_bits (bits width) r))) = rw taken (omega arith, rw (brief_tag BIT_STRING 2 9 s p y, string) at all) in
-          (rw w (placed_within (bits width) (8 * (v - 1)) b string_most wide), λ pos. (omega arith, rw number at begins.below, rw (number, ← f) at begins.zeros, starts, (omega arith, omega arith, h, zeros)))
+          (rw w (placed_within (bits width) (8 * (v - 1)) b string_most wide), omega arith, (omega arith, rw number at begins.below, rw (number, ← f) at begins.zeros, starts, (omega arith, omega arith, h, zeros)))

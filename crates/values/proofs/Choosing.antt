@@ -18,49 +18,46 @@ use Rattle.der.specs.Tags.{NULL, SEQUENCE}
 use Rattle.der.specs.Strings.{is_null}
 use Rattle.der.specs.Opening.{opening_of}
 use Rattle.der.specs.Parts.{Contents, is, isnt, Part, closed, sifted, filled}
-use Rattle.der.specs.declared.heads.Opening.{Opening}
-use Rattle.der.specs.declared.heads.Opening.TheVariants as opening
 use Rattle.der.proofs.Tagged.{tagged_bad, tagged_is}
-use Rattle.values.specs.Faults.{Fault, at, moved}
+use Rattle.values.specs.Faults.{Fault, at, moved, later}
 use Rattle.values.specs.Spaces.{space_number}
 use Rattle.values.specs.Elements.{elements_of}
 use Rattle.values.specs.Choices.{Choice, inherit, listed, inherited, list_at, inherit_at, listed_at, choice_at, listed_rows, inherit_row}
 use Rattle.values.specs.Into.{CountedInto, ChosenInto}
 use Rattle.values.specs.declared.elements.Space.{Space}
-use Rattle.values.specs.declared.elements.Counted.{Counted}
-use Rattle.values.specs.declared.elements.Counted.TheVariants as counted
-use Rattle.values.specs.declared.choices.Chosen.{Chosen}
-use Rattle.values.specs.declared.choices.Chosen.TheVariants as chosen
 use Rattle.values.proofs.Joins.{tag_inside, tag_place}
 use Rattle.values.proofs.Filling.{stands_still, stands_row, chosen_is, chosen_not}
 use Rattle.values.proofs.Answers.{counted_bad}
+use Rattle.der.specs.Opening.{Opening}
+use Rattle.std.specs.Prelude.{Ok, Err}
+use Rattle.values.specs.Faults.{Read, Taken}
 
 -- INHERIT
 
 module _ (a n : ℕ) (s t : List ℕ) (r : Opening) (p : r ≡ opening_of NULL s) where
   -- no NULL
-  pub inherit_bad : (f : Refusal) → r ≡ opening.Bad f → ChosenInto a s n t (inherit_at n s) (chosen.Bad f 0) t
+  pub inherit_bad : (f : Refusal) → r ≡ Err f → ChosenInto a s n t (inherit_at n s) (Err (at 0 f)) t
   unfolding inherit_at
-  inherit_bad f q = chosen_not a s n t t _ _ 0 f (tagged_bad (at 0) NULL _ s f (sym p ∙ q)) refl (omega arith) (stands_still t)
+  inherit_bad f q = chosen_not a s n t t _ _ (at 0 f) (tagged_bad (at 0) NULL _ s f (sym p ∙ q)) refl (omega arith) (stands_still t)
 
-  module _ (k e : ℕ) (q : r ≡ opening.Is k e) (b : Bool) (g : b ≡ is_null (take (e - k) (drop k s))) where
+  module _ (k e : ℕ) (q : r ≡ Ok (k, e)) (b : Bool) (g : b ≡ is_null (take (e - k) (drop k s))) where
     -- what its contents say
     inherit_by : (o : Contents Choice Fault) → inherited n (take (e - k) (drop k s)) ≡ o → inherit_at n s ≡ closed o (drop e s)
     unfolding inherit_at
     inherit_by o h = tagged_is (at 0) NULL (λ k. inherited n) s k e (sym p ∙ q) ∙ ap (λ (x : Contents Choice Fault). closed x (drop e s)) h
 
     -- there are some
-    pub inherit_contents : b ≡ false → ChosenInto a s n t (inherit_at n s) (chosen.Bad refusal.Contents 0) t
+    pub inherit_contents : b ≡ false → ChosenInto a s n t (inherit_at n s) (Err (at 0 refusal.Contents)) t
     unfolding inherited
-    inherit_contents h = chosen_not a s n t t _ _ 0 refusal.Contents (inherit_by (isnt (at 0 refusal.Contents)) (rw (← g, h))) refl (omega arith) (stands_still t)
+    inherit_contents h = chosen_not a s n t t _ _ (at 0 refusal.Contents) (inherit_by (isnt (at 0 refusal.Contents)) (rw (← g, h))) refl (omega arith) (stands_still t)
 
     -- there is no row for it
-    pub inherit_full : b ≡ true → max_rows ≤ n → ChosenInto a s n t (inherit_at n s) (chosen.Bad refusal.RowCount 0) t
+    pub inherit_full : b ≡ true → max_rows ≤ n → ChosenInto a s n t (inherit_at n s) (Err (at 0 refusal.RowCount)) t
     unfolding inherited
-    inherit_full h l = chosen_not a s n t t _ _ 0 refusal.RowCount (inherit_by (isnt (at 0 refusal.RowCount)) (rw (← g, h, le-leb max_rows n l))) refl (omega arith) (stands_still t)
+    inherit_full h l = chosen_not a s n t t _ _ (at 0 refusal.RowCount) (inherit_by (isnt (at 0 refusal.RowCount)) (rw (← g, h, le-leb max_rows n l))) refl (omega arith) (stands_still t)
 
     -- its row is written
-    pub inherit_is : (t' : List ℕ) (row : code.Row) → b ≡ true → n < max_rows → row ≡ in_halves (inherit_row a) → t' ≡ with_row t n (seen row) → ChosenInto a s n t (inherit_at n s) (chosen.Rows (n + 1) e) t'
+    pub inherit_is : (t' : List ℕ) (row : code.Row) → b ≡ true → n < max_rows → row ≡ in_halves (inherit_row a) → t' ≡ with_row t n (seen row) → ChosenInto a s n t (inherit_at n s) (Ok ((n + 1), e)) t'
     unfolding inherited with_rows
     inherit_is t' row h l u w =
         let z : t' ≡ with_row t n (inherit_row a) = rw u at w in
@@ -73,30 +70,30 @@ abbrev choice_of : List ℕ → ℕ → ℕ → Contents (List (ℕ × ℕ)) Fau
 choice_of s k e x = sifted (λ rs. is (listed rs)) (closed (filled (at 0 refusal.EmptyList) (moved k x)) (drop e s))
 
 -- by what was read of those m octets
-module _ (a n : ℕ) (s t t' : List ℕ) (k e m : ℕ) (c : Counted) where
+module _ (a n : ℕ) (s t t' : List ℕ) (k e m : ℕ) (c : Read ℕ) where
   -- there are none
-  elements_none : (x : Contents (List (ℕ × ℕ)) Fault) → CountedInto (listed_rows a) m n t x c t' → (j : ℕ) → c ≡ counted.Rows j → j ≡ n
-      → ChosenInto a s n t (choice_of s k e x) (chosen.Bad refusal.EmptyList 0) t'
+  elements_none : (x : Contents (List (ℕ × ℕ)) Fault) → CountedInto (listed_rows a) m n t x c t' → (j : ℕ) → c ≡ Ok j → j ≡ n
+      → ChosenInto a s n t (choice_of s k e x) (Err (at 0 refusal.EmptyList)) t'
   elements_none (isnt g) (w, u, v) j d l = let z : ◌≡◌ {A = ℕ} 0 1 = cc in absurd (omega arith)
   elements_none (is []) (w, u, v) j d l = (refl, omega arith, v)
   elements_none (is (x ∷ xs)) (w, u, v) j d l = let z : j ≡ n + length (listed_rows a (x ∷ xs)) = cc in absurd (omega arith)
 
   -- there are some
-  elements_some : (x : Contents (List (ℕ × ℕ)) Fault) → CountedInto (listed_rows a) m n t x c t' → (j : ℕ) → c ≡ counted.Rows j → (j ≡ n → ⊥) → e ≤ length s
-      → ChosenInto a s n t (choice_of s k e x) (chosen.Rows j e) t'
+  elements_some : (x : Contents (List (ℕ × ℕ)) Fault) → CountedInto (listed_rows a) m n t x c t' → (j : ℕ) → c ≡ Ok j → (j ≡ n → ⊥) → e ≤ length s
+      → ChosenInto a s n t (choice_of s k e x) (Ok (j, e)) t'
   elements_some (isnt g) (w, u, v) j d h l = let z : ◌≡◌ {A = ℕ} 0 1 = cc in absurd (omega arith)
   elements_some (is []) (w, u, v) j d h l = let z : j ≡ n + 0 = cc in absurd (omega arith)
   elements_some (is (x ∷ xs)) (w, u, v) j d h l =
       let z : j ≡ n + length (listed_rows a (x ∷ xs)) = cc in
-      record { end = e; answer = ap (λ (i : ℕ). chosen.Rows i e) z; inside = l; over = refl; table = u; stands = v }
+      record { end = e; answer = ap (λ (i : ℕ). Ok (i, e)) z; inside = l; over = refl; table = u; stands = v }
 
 module _ (a : Space) (n : ℕ) (s t : List ℕ) (r : Opening) (p : r ≡ opening_of SEQUENCE s) where
   -- no SEQUENCE
-  pub list_bad : (f : Refusal) → r ≡ opening.Bad f → ChosenInto (space_number a) s n t (listed_at a n s) (chosen.Bad f 0) t
+  pub list_bad : (f : Refusal) → r ≡ Err f → ChosenInto (space_number a) s n t (listed_at a n s) (Err (at 0 f)) t
   unfolding listed_at list_at
   list_bad f q = rw (tagged_bad (at 0) SEQUENCE (λ k c. filled (at 0 refusal.EmptyList) (moved k (elements_of a n c))) s f (sym p ∙ q)) (refl, omega arith, stands_still t)
 
-  module _ (k e : ℕ) (q : r ≡ opening.Is k e) where
+  module _ (k e : ℕ) (q : r ≡ Ok (k, e)) where
     -- how many octets its contents have
     abbrev inner : ℕ
     inner = length (take (e - k) (drop k s))
@@ -110,29 +107,29 @@ module _ (a : Space) (n : ℕ) (s t : List ℕ) (r : Opening) (p : r ≡ opening
     unfolding listed_at list_at
     list_by = rw (tagged_is (at 0) SEQUENCE (λ k c. filled (at 0 refusal.EmptyList) (moved k (elements_of a n c))) s k e (sym p ∙ q))
 
-    module _ (t' : List ℕ) (c : Counted) (h : CountedInto (listed_rows (space_number a)) (length (take (e - k) (drop k s))) n t (elements_of a n (take (e - k) (drop k s))) c t') where
+    module _ (t' : List ℕ) (c : Read ℕ) (h : CountedInto (listed_rows (space_number a)) (length (take (e - k) (drop k s))) n t (elements_of a n (take (e - k) (drop k s))) c t') where
       -- of which an element is refused
-      pub list_isnt : (f : Refusal) (j : ℕ) → c ≡ counted.Bad f j → ChosenInto (space_number a) s n t (listed_at a n s) (chosen.Bad f (k + j)) t'
-      list_isnt f j d =
-          let g = counted_bad (listed_rows (space_number a)) inner n t t' c elements h f j d in
-          rw (list_by, ← g.was) (refl, tag_place SEQUENCE s p k e q j g.inside, g.stands)
+      pub list_isnt : (f : Fault) → c ≡ Err f → ChosenInto (space_number a) s n t (listed_at a n s) (Err (later k f)) t'
+      list_isnt f d =
+          let g = counted_bad (listed_rows (space_number a)) inner n t t' c elements h f d in
+          rw (list_by, ← g.was) (refl, tag_place SEQUENCE s p k e q f.place g.inside, g.stands)
 
       -- whose place is in s
-      pub list_fits : (f : Refusal) (j : ℕ) → c ≡ counted.Bad f j → length s < 2 ^ 64 → k + j < 2 ^ 64
-      list_fits f j d l = omega (arith, tag_place SEQUENCE s p k e q j (counted_bad (listed_rows (space_number a)) inner n t t' c elements h f j d).inside)
+      pub list_fits : (f : Fault) → c ≡ Err f → length s < 2 ^ 64 → k + f.place < 2 ^ 64
+      list_fits f d l = omega (arith, tag_place SEQUENCE s p k e q f.place (counted_bad (listed_rows (space_number a)) inner n t t' c elements h f d).inside)
 
       -- of no element
-      pub list_none : (j : ℕ) → c ≡ counted.Rows j → j ≡ n → ChosenInto (space_number a) s n t (listed_at a n s) (chosen.Bad refusal.EmptyList 0) t'
+      pub list_none : (j : ℕ) → c ≡ Ok j → j ≡ n → ChosenInto (space_number a) s n t (listed_at a n s) (Err (at 0 refusal.EmptyList)) t'
       list_none j d l = rw list_by (elements_none (space_number a) n s t t' k e inner c elements h j d l)
 
       -- of some
-      pub list_some : (j : ℕ) → c ≡ counted.Rows j → (j ≡ n → ⊥) → ChosenInto (space_number a) s n t (listed_at a n s) (chosen.Rows j e) t'
+      pub list_some : (j : ℕ) → c ≡ Ok j → (j ≡ n → ⊥) → ChosenInto (space_number a) s n t (listed_at a n s) (Ok (j, e)) t'
       list_some j d l = rw list_by (elements_some (space_number a) n s t t' k e inner c elements h j d l (tag_inside SEQUENCE s p k e q))
 
 -- EITHER
 
 -- what s begins with
-module _ (a : Space) (n : ℕ) (s t t' : List ℕ) (r : Chosen) where
+module _ (a : Space) (n : ℕ) (s t t' : List ℕ) (r : Taken ℕ) where
   -- a NULL
   pub choice_null : (x : ℕ) → get_or s 0 0 ≡ NULL → x ≡ space_number a → ChosenInto x s n t (inherit_at n s) r t' → ChosenInto (space_number a) s n t (choice_at a n s) r t'
   unfolding choice_at

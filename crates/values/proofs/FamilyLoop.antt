@@ -14,37 +14,35 @@ use Rattle.der.specs.Tags.{SEQUENCE}
 use Rattle.der.specs.Opening.{opening_of}
 use Rattle.der.specs.Walk.{got, no}
 use Rattle.der.specs.Parts.{is, isnt, admitted}
-use Rattle.der.specs.declared.heads.Opening.{Opening}
-use Rattle.der.specs.declared.heads.Opening.TheVariants as opening
 use Rattle.der.proofs.Held.{Held, held_start, held_end, held_exit, held_turn}
 use Rattle.der.proofs.laws.Heads.{opens}
-use Rattle.values.specs.Faults.{at, moved}
+use Rattle.values.specs.Faults.{Fault, at, later, moved}
 use Rattle.values.specs.Elements.{Place}
 use Rattle.values.specs.Choices.{Choice, choice_rows}
 use Rattle.values.specs.Blocks.{family_of, family_at, admit_family, family_step, families_of}
 use Rattle.values.specs.Tables.{blocks_rows}
 use Rattle.values.specs.Into.{Stands, CountedInto, FamilyInto}
-use Rattle.values.specs.declared.elements.Counted.TheVariants as counted
-use Rattle.values.specs.declared.blocks.Family.{Family}
-use Rattle.values.specs.declared.blocks.Family.TheVariants as family
 use Rattle.values.proofs.Joins.{tag_refused, tag_isnt, tag_took, tag_place}
 use Rattle.values.proofs.Wholes.{before}
 use Rattle.values.proofs.Filling.{stands_still, stands_on, counted_is, counted_not}
 use Rattle.values.proofs.Answers.{rows_on, count_on, Denied, Granted, family_bad, family_rows}
+use Rattle.der.specs.Opening.{Opening}
+use Rattle.std.specs.Prelude.{Ok, Err}
+use Rattle.values.specs.Faults.{Read}
 
 -- ONE STEP
 
 module _ (σ : Place) (s : List ℕ) (o : Opening) (p : o ≡ opening_of SEQUENCE s) where
   -- no SEQUENCE
-  step_bad : (f : Refusal) → o ≡ opening.Bad f → family_step σ s ≡ no (at (σ.0 + 0) f)
+  step_bad : (f : Refusal) → o ≡ Err f → family_step σ s ≡ no (at (σ.0 + 0) f)
   unfolding family_step admitted family_at
   step_bad f q = rw (← (tag_refused SEQUENCE s p (λ k c. moved k (family_of σ.1 σ.2 c)) f q).told)
 
-  module _ (k e : ℕ) (q : o ≡ opening.Is k e) where
+  module _ (k e : ℕ) (q : o ≡ Ok (k, e)) where
     -- its contents are refused
-    step_isnt : (f : Refusal) (j : ℕ) → isnt (at j f) ≡ family_of σ.1 σ.2 (take (e - k) (drop k s)) → k + j ≤ length s → family_step σ s ≡ no (at (σ.0 + (k + j)) f)
+    step_isnt : (f : Fault) → isnt f ≡ family_of σ.1 σ.2 (take (e - k) (drop k s)) → k + f.place ≤ length s → family_step σ s ≡ no (later σ.0 (later k f))
     unfolding family_step admitted family_at
-    step_isnt f j h l = rw (← (tag_isnt SEQUENCE s p k e q (λ k c. moved k (family_of σ.1 σ.2 c)) f (k + j) (rw (← h) refl) l).told)
+    step_isnt f h l = rw (← (tag_isnt SEQUENCE s p k e q (λ k c. moved k (family_of σ.1 σ.2 c)) (later k f) (rw (← h) refl) l).told)
 
     -- they are a family
     step_got : (a m : ℕ) (c : Choice) → is (a, c) ≡ family_of σ.1 σ.2 (take (e - k) (drop k s)) → m ≡ σ.2 + length (choice_rows a c) → e ≤ length s
@@ -78,47 +76,47 @@ gather_start s t =
     record { read = []; held = rw z (held_start (0, 0, 0) s); table = refl; rows = refl; stands = stands_still t; inside = omega arith }
 
 -- a part of what was left
-pub gather_less : (rest : List ℕ) (o : Opening) (k e : ℕ) → o ≡ opening_of SEQUENCE rest → o ≡ opening.Is k e → 0 < length rest → length (take (length rest - e) (drop e rest)) < length rest
+pub gather_less : (rest : List ℕ) (o : Opening) (k e : ℕ) → o ≡ opening_of SEQUENCE rest → o ≡ Ok (k, e) → 0 < length rest → length (take (length rest - e) (drop e rest)) < length rest
 gather_less rest o k e p q l = let i = opens SEQUENCE rest k e p q in rw (rest_of e rest, length-drop) (omega (arith, i.start, i.order))
 
 module _ (s t₀ t rest : List ℕ) (least n : ℕ) (v : Gathering s t₀ t rest least n) where
   -- nothing is left
-  pub gather_end : length rest ≤ 0 → CountedInto blocks_rows (length s) 0 t₀ (families_of s) (counted.Rows n) t
-  gather_end h = counted_is blocks_rows (length s) 0 t₀ t (families_of s) (counted.Rows n) v.read (held_end v.held h) (ap counted.Rows v.rows) v.table v.stands
+  pub gather_end : length rest ≤ 0 → CountedInto blocks_rows (length s) 0 t₀ (families_of s) (Ok n) t
+  gather_end h = counted_is blocks_rows (length s) 0 t₀ t (families_of s) (Ok n) v.read (held_end v.held h) (ap Ok v.rows) v.table v.stands
 
   module _ (h : 0 < length rest) (o : Opening) (p : o ≡ opening_of SEQUENCE rest) where
     -- no SEQUENCE is next
-    pub gather_bad : (f : Refusal) → o ≡ opening.Bad f → CountedInto blocks_rows (length s) 0 t₀ (families_of s) (counted.Bad f (length s - length rest)) t
+    pub gather_bad : (f : Refusal) → o ≡ Err f → CountedInto blocks_rows (length s) 0 t₀ (families_of s) (Err (at (length s - length rest) f)) t
     gather_bad f q =
         let z : length s - length rest + 0 ≡ length s - length rest = omega arith in
-        counted_not blocks_rows (length s) 0 t₀ t (families_of s) (counted.Bad f (length s - length rest)) (length s - length rest) f
+        counted_not blocks_rows (length s) 0 t₀ t (families_of s) (Err (at (length s - length rest) f)) (at (length s - length rest) f)
         (held_exit v.held (at (length s - length rest) f) h (step_bad _ rest o p f q ∙ rw z)) refl (omega arith) v.stands
 
-    module _ (k e : ℕ) (q : o ≡ opening.Is k e) where
+    module _ (k e : ℕ) (q : o ≡ Ok (k, e)) where
       -- the place of its contents
       pub head_fits : length s < 2 ^ 64 → length s - length rest + k < 2 ^ 64
       head_fits l = let i = opens SEQUENCE rest k e p q in omega (arith, v.inside, i.order, i.inside)
 
-      module _ (t' : List ℕ) (r : Family) (u : FamilyInto (length (take (e - k) (drop k rest))) n t (family_of least n (take (e - k) (drop k rest))) r t') where
+      module _ (t' : List ℕ) (r : Read (ℕ × ℕ)) (u : FamilyInto (length (take (e - k) (drop k rest))) n t (family_of least n (take (e - k) (drop k rest))) r t') where
         -- they are refused
-        module _ (f : Refusal) (j : ℕ) (w : r ≡ family.Bad f j) where
-          refusal_of_lem : Denied (length (take (e - k) (drop k rest))) (family_of least n (take (e - k) (drop k rest))) (isnt (at j f)) j t t'
-          refusal_of_lem = family_bad _ n t t' r (family_of least n (take (e - k) (drop k rest))) u f j w
+        module _ (f : Fault) (w : r ≡ Err f) where
+          refusal_of_lem : Denied (length (take (e - k) (drop k rest))) (family_of least n (take (e - k) (drop k rest))) (isnt f) f.place t t'
+          refusal_of_lem = family_bad _ n t t' r (family_of least n (take (e - k) (drop k rest))) u f w
 
-          place : k + j ≤ length rest
-          place = tag_place SEQUENCE rest p k e q j refusal_of_lem.inside
+          place : k + f.place ≤ length rest
+          place = tag_place SEQUENCE rest p k e q f.place refusal_of_lem.inside
 
-          pub place_fits : length s < 2 ^ 64 → length s - length rest + k + j < 2 ^ 64
+          pub place_fits : length s < 2 ^ 64 → length s - length rest + k + f.place < 2 ^ 64
           place_fits l = omega (arith, v.inside, place)
 
-          pub gather_isnt : CountedInto blocks_rows (length s) 0 t₀ (families_of s) (counted.Bad f (length s - length rest + k + j)) t'
+          pub gather_isnt : CountedInto blocks_rows (length s) 0 t₀ (families_of s) (Err (later (length s - length rest + k) f)) t'
           gather_isnt =
-              let z : length s - length rest + (k + j) ≡ length s - length rest + k + j = omega arith in
-              counted_not blocks_rows (length s) 0 t₀ t' (families_of s) (counted.Bad f (length s - length rest + k + j)) (length s - length rest + k + j) f
-              (held_exit v.held (at (length s - length rest + k + j) f) h (step_isnt _ rest o p k e q f j refusal_of_lem.was place ∙ rw z)) refl (omega (arith, v.inside, place)) (stands_on v.stands refusal_of_lem.stands)
+              let z : length s - length rest + (k + f.place) ≡ length s - length rest + k + f.place = omega arith in
+              counted_not blocks_rows (length s) 0 t₀ t' (families_of s) (Err (later (length s - length rest + k) f)) (later (length s - length rest + k) f)
+              (held_exit v.held (later (length s - length rest + k) f) h (step_isnt _ rest o p k e q f refusal_of_lem.was place ∙ rw z)) refl (omega (arith, v.inside, place)) (stands_on v.stands refusal_of_lem.stands)
 
         -- they are a family
-        module _ (a m : ℕ) (w : r ≡ family.Rows a m) where
+        module _ (a m : ℕ) (w : r ≡ Ok (a, m)) where
           family_of_these : Granted (choice_rows a) (λ c. is (a, c)) (family_of least n (take (e - k) (drop k rest))) n m t t' × (a ≤ 4095)
           family_of_these = family_rows _ n t t' r (family_of least n (take (e - k) (drop k rest))) u a m w
 

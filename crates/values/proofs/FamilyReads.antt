@@ -13,51 +13,45 @@ use Rattle.number.proofs.Picks.{rest_of}
 use Rattle.der.specs.Tags.{SEQUENCE}
 use Rattle.der.specs.Opening.{opening_of}
 use Rattle.der.specs.Parts.{Contents, Part, part, nopart}
-use Rattle.der.specs.declared.heads.Opening.{Opening}
-use Rattle.der.specs.declared.heads.Opening.TheVariants as opening
-use Rattle.values.specs.Faults.{Fault, at, moved}
+use Rattle.values.specs.Faults.{Fault, at, moved, later}
 use Rattle.values.specs.Choices.{Choice, choice_at, choice_rows}
 use Rattle.values.specs.Blocks.{space_at, family_of, families_of, read_blocks}
 use Rattle.values.specs.Tables.{blocks_rows}
 use Rattle.values.specs.Seen.{Reached, space_seen, SpaceIn}
 use Rattle.values.specs.Into.{CountedInto, ChosenInto, FamilyInto}
 use Rattle.values.specs.declared.elements.Space.TheVariants as space
-use Rattle.values.specs.declared.elements.Counted.{Counted}
-use Rattle.values.specs.declared.elements.Counted.TheVariants as counted
-use Rattle.values.specs.declared.choices.Chosen.{Chosen}
-use Rattle.values.specs.declared.choices.Chosen.TheVariants as chosen
-use Rattle.values.specs.declared.blocks.SpaceAt.{SpaceAt}
-use Rattle.values.specs.declared.blocks.SpaceAt.TheVariants as spaceat
-use Rattle.values.specs.declared.blocks.Family.TheVariants as family
 use Rattle.values.proofs.Filling.{stands_still, family_is, family_not}
 use Rattle.values.proofs.Wholes.{only_bad, only_over, only_all, paired, two_first, two_second, two_both}
 use Rattle.values.proofs.Answers.{Granted, chosen_bad, chosen_rows}
 use Rattle.values.proofs.ValueReads.{value_bad, value_place, value_isnt, value_over, value_all}
+use Rattle.der.specs.Opening.{Opening}
+use Rattle.std.specs.Prelude.{Ok, Err}
+use Rattle.values.specs.Faults.{Read, Taken}
 
 -- A FAMILY
 
 -- the bounds of its space
-module _ (m : ℕ) (a : SpaceAt) (i : SpaceIn m a) (x k : ℕ) (e : a ≡ spaceat.Is x k) where
+module _ (m : ℕ) (a : Taken ℕ) (i : SpaceIn m a) (x k : ℕ) (e : a ≡ Ok (x, k)) where
   space_in : (x ≤ 4095) × Reached m k
   space_in = rw e at i
 
   pub space_end : k ≤ m
   space_end = space_in.1.1
 
-module _ (least n : ℕ) (s t : List ℕ) (a : SpaceAt) (p : space_seen s a ≡ space_at least s) (i : SpaceIn (length s) a) where
+module _ (least n : ℕ) (s t : List ℕ) (a : Taken ℕ) (p : space_seen s a ≡ space_at least s) (i : SpaceIn (length s) a) where
   -- its choice
   abbrev next : ℕ → List ℕ → Part Choice Fault
   next x rest = choice_at (space.Addresses x) n rest
 
   -- its space is refused
-  pub family_space : (f : Refusal) (q : ℕ) → a ≡ spaceat.Bad f q → FamilyInto (length s) n t (family_of least n s) (family.Bad f q) t
+  pub family_space : (f : Fault) → a ≡ Err f → FamilyInto (length s) n t (family_of least n s) (Err f) t
   unfolding family_of
-  family_space f q e =
-      let w : nopart (at q f) ≡ space_at least s = rw e at p in
-      let l : q ≤ length s = rw e at i in
-      family_not (length s) n t t _ _ q f (only_bad (paired (space_at least) next) s (at q f) (two_first (space_at least) next s (at q f) w)) refl l (stands_still t)
+  family_space f e =
+      let w : nopart f ≡ space_at least s = rw e at p in
+      let l : f.place ≤ length s = rw e at i in
+      family_not (length s) n t t _ _ f (only_bad (paired (space_at least) next) s f (two_first (space_at least) next s f w)) refl l (stands_still t)
 
-  module _ (x k : ℕ) (e : a ≡ spaceat.Is x k) where
+  module _ (x k : ℕ) (e : a ≡ Ok (x, k)) where
     -- its space is read
     space_is : part x (drop k s) ≡ space_at least s
     space_is = rw e at p
@@ -66,31 +60,31 @@ module _ (least n : ℕ) (s t : List ℕ) (a : SpaceAt) (p : space_seen s a ≡ 
     upto : k ≤ length s
     upto = space_end (length s) a i x k e
 
-    module _ (t' : List ℕ) (r : Chosen) (h : ChosenInto x (take (length s - k) (drop k s)) n t (next x (take (length s - k) (drop k s))) r t') where
+    module _ (t' : List ℕ) (r : Taken ℕ) (h : ChosenInto x (take (length s - k) (drop k s)) n t (next x (take (length s - k) (drop k s))) r t') where
       -- its choice begins there
       here : ChosenInto x (drop k s) n t (next x (drop k s)) r t'
       here = rw rest_of at h
 
       -- a place of the choice is one of the family
-      choice_place : (f : Refusal) (q : ℕ) → r ≡ chosen.Bad f q → k + q ≤ length s
-      choice_place f q u =
-          let d = chosen_bad x (drop k s) n t t' r (next x (drop k s)) here f q u in
-          let l : q ≤ length s - k = rw length-drop at d.inside in
+      choice_place : (f : Fault) → r ≡ Err f → k + f.place ≤ length s
+      choice_place f u =
+          let d = chosen_bad x (drop k s) n t t' r (next x (drop k s)) here f u in
+          let l : f.place ≤ length s - k = rw length-drop at d.inside in
           omega (arith, upto)
 
-      pub choice_fits : (f : Refusal) (q : ℕ) → r ≡ chosen.Bad f q → length s < 2 ^ 64 → k + q < 2 ^ 64
-      choice_fits f q u = lt_of_le_of_lt (choice_place f q u)
+      pub choice_fits : (f : Fault) → r ≡ Err f → length s < 2 ^ 64 → k + f.place < 2 ^ 64
+      choice_fits f u = lt_of_le_of_lt (choice_place f u)
 
       -- its choice is refused
-      pub family_choice : (f : Refusal) (q : ℕ) → r ≡ chosen.Bad f q → FamilyInto (length s) n t (family_of least n s) (family.Bad f (k + q)) t'
+      pub family_choice : (f : Fault) → r ≡ Err f → FamilyInto (length s) n t (family_of least n s) (Err (later k f)) t'
       unfolding family_of
-      family_choice f q u =
-          let d = chosen_bad x (drop k s) n t t' r (next x (drop k s)) here f q u in
-          family_not (length s) n t t' _ _ (k + q) f
-          (only_bad (paired (space_at least) next) s (at (k + q) f) (two_second (space_at least) next s x k space_is upto (at q f) d.was))
-          refl (choice_place f q u) d.stands
+      family_choice f u =
+          let d = chosen_bad x (drop k s) n t t' r (next x (drop k s)) here f u in
+          family_not (length s) n t t' _ _ (later k f)
+          (only_bad (paired (space_at least) next) s (later k f) (two_second (space_at least) next s x k space_is upto f d.was))
+          refl (choice_place f u) d.stands
 
-      module _ (m j : ℕ) (u : r ≡ chosen.Rows m j) where
+      module _ (m j : ℕ) (u : r ≡ Ok (m, j)) where
         -- both elements were read
         both_read : Granted (choice_rows x) (λ c. part (x, c) (drop (k + j) s)) (paired (space_at least) next s) n m t t'
         both_read =
@@ -98,22 +92,22 @@ module _ (least n : ℕ) (s t : List ℕ) (a : SpaceAt) (p : space_seen s a ≡ 
             record { read = g.read; was = two_both (space_at least) next s x k space_is upto g.read j g.was; count = g.count; table = g.table; stands = g.stands }
 
         -- octets are left
-        pub family_over : j < length (take (length s - k) (drop k s)) → FamilyInto (length s) n t (family_of least n s) (family.Bad refusal.OctetsLeft (k + j)) t'
+        pub family_over : j < length (take (length s - k) (drop k s)) → FamilyInto (length s) n t (family_of least n s) (Err (at (k + j) refusal.OctetsLeft)) t'
         unfolding family_of
         family_over l =
             let g = both_read in
             let b : j < length s - k = rw (rest_of k s, length-drop) at l in
             let z : k + j < length s = omega arith in
-            family_not (length s) n t t' _ _ (k + j) refusal.OctetsLeft (only_over (paired (space_at least) next) s (x, g.read) (k + j) g.was z) refl (omega arith) g.stands
+            family_not (length s) n t t' _ _ (at (k + j) refusal.OctetsLeft) (only_over (paired (space_at least) next) s (x, g.read) (k + j) g.was z) refl (omega arith) g.stands
 
         -- none is
-        pub family_all : length (take (length s - k) (drop k s)) ≤ j → FamilyInto (length s) n t (family_of least n s) (family.Rows x m) t'
+        pub family_all : length (take (length s - k) (drop k s)) ≤ j → FamilyInto (length s) n t (family_of least n s) (Ok (x, m)) t'
         unfolding family_of
         family_all l =
             let g = both_read in
             let b : length s - k ≤ j = rw (rest_of k s, length-drop) at l in
             let z : length s ≤ k + j = omega arith in
-            family_is (length s) n t t' _ _ x g.read (only_all (paired (space_at least) next) s (x, g.read) (k + j) g.was z) (ap (family.Rows x) g.count) (space_in (length s) a i x k e).0 g.table g.stands
+            family_is (length s) n t t' _ _ x g.read (only_all (paired (space_at least) next) s (x, g.read) (k + j) g.was z) (ap (λ (i : ℕ). Ok (x, i)) g.count) (space_in (length s) a i x k e).0 g.table g.stands
 
 -- THE VALUE
 
@@ -123,26 +117,26 @@ module _ (v t : List ℕ) (o : Opening) (p : o ≡ opening_of SEQUENCE v) where
   inner k c = moved k (families_of c)
 
   -- there is no SEQUENCE
-  pub blocks_bad : (f : Refusal) → o ≡ opening.Bad f → CountedInto blocks_rows (length v) 0 t (read_blocks v) (counted.Bad f 0) t
+  pub blocks_bad : (f : Refusal) → o ≡ Err f → CountedInto blocks_rows (length v) 0 t (read_blocks v) (Err (at 0 f)) t
   unfolding read_blocks
   blocks_bad f q = value_bad blocks_rows inner 0 v t o p f q
 
-  module _ (k e : ℕ) (q : o ≡ opening.Is k e) (t' : List ℕ) (r : Counted) (h : CountedInto blocks_rows (length (take (e - k) (drop k v))) 0 t (families_of (take (e - k) (drop k v))) r t') where
+  module _ (k e : ℕ) (q : o ≡ Ok (k, e)) (t' : List ℕ) (r : Read ℕ) (h : CountedInto blocks_rows (length (take (e - k) (drop k v))) 0 t (families_of (take (e - k) (drop k v))) r t') where
     -- a place of its contents is one of the value
-    pub blocks_fits : (f : Refusal) (j : ℕ) → r ≡ counted.Bad f j → length v < 2 ^ 64 → k + j < 2 ^ 64
-    blocks_fits f j u = lt_of_le_of_lt (value_place blocks_rows inner 0 v t o p k e q (families_of (take (e - k) (drop k v))) refl t' r h f j u)
+    pub blocks_fits : (f : Fault) → r ≡ Err f → length v < 2 ^ 64 → k + f.place < 2 ^ 64
+    blocks_fits f u = lt_of_le_of_lt (value_place blocks_rows inner 0 v t o p k e q (families_of (take (e - k) (drop k v))) refl t' r h f u)
 
     -- they are refused
-    pub blocks_isnt : (f : Refusal) (j : ℕ) → r ≡ counted.Bad f j → CountedInto blocks_rows (length v) 0 t (read_blocks v) (counted.Bad f (k + j)) t'
+    pub blocks_isnt : (f : Fault) → r ≡ Err f → CountedInto blocks_rows (length v) 0 t (read_blocks v) (Err (later k f)) t'
     unfolding read_blocks
-    blocks_isnt f j u = value_isnt blocks_rows inner 0 v t o p k e q (families_of (take (e - k) (drop k v))) refl t' r h f j u
+    blocks_isnt f u = value_isnt blocks_rows inner 0 v t o p k e q (families_of (take (e - k) (drop k v))) refl t' r h f u
 
     -- octets are left
-    pub blocks_over : (m : ℕ) → r ≡ counted.Rows m → e < length v → CountedInto blocks_rows (length v) 0 t (read_blocks v) (counted.Bad refusal.OctetsLeft e) t'
+    pub blocks_over : (m : ℕ) → r ≡ Ok m → e < length v → CountedInto blocks_rows (length v) 0 t (read_blocks v) (Err (at e refusal.OctetsLeft)) t'
     unfolding read_blocks
     blocks_over m u l = value_over blocks_rows inner 0 v t o p k e q (families_of (take (e - k) (drop k v))) refl t' r h m u l
 
     -- none is
-    pub blocks_all : (m : ℕ) → r ≡ counted.Rows m → length v ≤ e → CountedInto blocks_rows (length v) 0 t (read_blocks v) (counted.Rows m) t'
+    pub blocks_all : (m : ℕ) → r ≡ Ok m → length v ≤ e → CountedInto blocks_rows (length v) 0 t (read_blocks v) (Ok m) t'
     unfolding read_blocks
     blocks_all m u l = value_all blocks_rows inner 0 v t o p k e q (families_of (take (e - k) (drop k v))) refl t' r h m u l

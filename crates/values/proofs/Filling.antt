@@ -6,20 +6,15 @@ use mathlib.Core.Path.{◌≡◌, refl, ◌∙◌}
 use mathlib.Core.List.{List}
 use Prim.Native.Nat.{ℕ, ◌+◌, ◌≤◌, ◌<◌}
 use lib.ListN.{length, drop}
-use Rattle.number.specs.declared.refusal.Refusal.{Refusal}
 use Rattle.table.specs.Sizes.{max_rows}
 use Rattle.table.specs.Rows.{Row, with_row, with_rows}
 use Rattle.table.proofs.laws.Rows.{length_with_row, with_row_later}
 use Rattle.der.specs.Parts.{Contents, is, isnt, Part, part, nopart}
-use Rattle.values.specs.Faults.{Fault, at}
+use Rattle.values.specs.Faults.{Fault}
 use Rattle.values.specs.Choices.{Choice, choice_rows}
 use Rattle.values.specs.Into.{Stands, CountedInto, ChosenInto, FamilyInto}
-use Rattle.values.specs.declared.elements.Counted.{Counted}
-use Rattle.values.specs.declared.elements.Counted.TheVariants as counted
-use Rattle.values.specs.declared.choices.Chosen.{Chosen}
-use Rattle.values.specs.declared.choices.Chosen.TheVariants as chosen
-use Rattle.values.specs.declared.blocks.Family.{Family}
-use Rattle.values.specs.declared.blocks.Family.TheVariants as family
+use Rattle.values.specs.Faults.{Read, Taken}
+use Rattle.std.specs.Prelude.{Ok, Err}
 
 -- nothing was written
 pub stands_still : (t : List ℕ) → Stands t t
@@ -33,30 +28,30 @@ stands_row t n r h = record { long = length_with_row t n r; later = with_row_lat
 pub stands_on : {t t' t'' : List ℕ} → Stands t t' → Stands t' t'' → Stands t t''
 stands_on a b = record { long = b.long ∙ a.long; later = b.later ∙ a.later }
 
-module _ {X : Type 0} (rows : X → List Row) (m n : ℕ) (t t' : List ℕ) (o : Contents X Fault) (r : Counted) where
+module _ {X : Type 0} (rows : X → List Row) (m n : ℕ) (t t' : List ℕ) (o : Contents X Fault) (r : Read ℕ) where
   -- all was read
-  pub counted_is : (x : X) → is x ≡ o → r ≡ counted.Rows (n + length (rows x)) → t' ≡ with_rows t n (rows x) → Stands t t' → CountedInto rows m n t o r t'
+  pub counted_is : (x : X) → is x ≡ o → r ≡ Ok (n + length (rows x)) → t' ≡ with_rows t n (rows x) → Stands t t' → CountedInto rows m n t o r t'
   counted_is x e p q h = rw (← e) (p, q, h)
 
   -- there is a refusal
-  pub counted_not : (p : ℕ) (f : Refusal) → isnt (at p f) ≡ o → r ≡ counted.Bad f p → p ≤ m → Stands t t' → CountedInto rows m n t o r t'
-  counted_not p f e q l h = rw (← e) (q, l, h)
+  pub counted_not : (f : Fault) → isnt f ≡ o → r ≡ Err f → f.place ≤ m → Stands t t' → CountedInto rows m n t o r t'
+  counted_not f e q l h = rw (← e) (q, l, h)
 
-module _ (a : ℕ) (s : List ℕ) (n : ℕ) (t t' : List ℕ) (o : Part Choice Fault) (r : Chosen) where
+module _ (a : ℕ) (s : List ℕ) (n : ℕ) (t t' : List ℕ) (o : Part Choice Fault) (r : Taken ℕ) where
   -- a choice, in the octets up to an end
-  pub chosen_is : (c : Choice) (end : ℕ) → o ≡ part c (drop end s) → r ≡ chosen.Rows (n + length (choice_rows a c)) end → end ≤ length s → t' ≡ with_rows t n (choice_rows a c) → Stands t t'
+  pub chosen_is : (c : Choice) (end : ℕ) → o ≡ part c (drop end s) → r ≡ Ok ((n + length (choice_rows a c)), end) → end ≤ length s → t' ≡ with_rows t n (choice_rows a c) → Stands t t'
       → ChosenInto a s n t o r t'
   chosen_is c end e p l q h = rw e (record { end = end; answer = p; inside = l; over = refl; table = q; stands = h })
 
   -- a refusal
-  pub chosen_not : (p : ℕ) (f : Refusal) → o ≡ nopart (at p f) → r ≡ chosen.Bad f p → p ≤ length s → Stands t t' → ChosenInto a s n t o r t'
-  chosen_not p f e q l h = rw e (q, l, h)
+  pub chosen_not : (f : Fault) → o ≡ nopart f → r ≡ Err f → f.place ≤ length s → Stands t t' → ChosenInto a s n t o r t'
+  chosen_not f e q l h = rw e (q, l, h)
 
-module _ (m n : ℕ) (t t' : List ℕ) (o : Contents (ℕ × Choice) Fault) (r : Family) where
+module _ (m n : ℕ) (t t' : List ℕ) (o : Contents (ℕ × Choice) Fault) (r : Read (ℕ × ℕ)) where
   -- a family was read
-  pub family_is : (a : ℕ) (c : Choice) → is (a, c) ≡ o → r ≡ family.Rows a (n + length (choice_rows a c)) → a ≤ 4095 → t' ≡ with_rows t n (choice_rows a c) → Stands t t' → FamilyInto m n t o r t'
+  pub family_is : (a : ℕ) (c : Choice) → is (a, c) ≡ o → r ≡ Ok (a, (n + length (choice_rows a c))) → a ≤ 4095 → t' ≡ with_rows t n (choice_rows a c) → Stands t t' → FamilyInto m n t o r t'
   family_is a c e p l q h = rw (← e) (p, l, q, h)
 
   -- or refused
-  pub family_not : (q : ℕ) (f : Refusal) → isnt (at q f) ≡ o → r ≡ family.Bad f q → q ≤ m → Stands t t' → FamilyInto m n t o r t'
-  family_not q f e p l h = rw (← e) (p, l, h)
+  pub family_not : (f : Fault) → isnt f ≡ o → r ≡ Err f → f.place ≤ m → Stands t t' → FamilyInto m n t o r t'
+  family_not f e p l h = rw (← e) (p, l, h)

@@ -22,61 +22,53 @@ use Rattle.table.specs.declared.rows.Row.{Row}
 use Rattle.der.specs.Tags.{INTEGER, SEQUENCE}
 use Rattle.der.specs.Integer.{integer_of, integer_size, integer_octets}
 use Rattle.der.specs.Opening.{opening_of}
-use Rattle.der.specs.Parts.{is, isnt}
-use Rattle.der.specs.declared.heads.Opening.{Opening}
-use Rattle.der.specs.declared.heads.Opening.TheVariants as opening
-use Rattle.der.specs.declared.integers.Integer.{Integer}
-use Rattle.der.specs.declared.integers.Integer.TheVariants as integer
-use Rattle.values.specs.Faults.{at, moved}
+use Rattle.der.specs.Parts.{is}
+use Rattle.der.specs.declared.integers.BadInteger.{BadInteger}
+use Rattle.values.specs.Faults.{Fault, at, later, moved}
 use Rattle.values.specs.Choices.{listed_row}
 use Rattle.values.specs.Ids.{integer_contents, integer_at, pair_of, pair_at, apart, number_at, range_at}
 use Rattle.values.specs.Seen.{integer_seen, IntegerIn, pair_seen, PairIn, pair_at_seen, PairAtIn, range_seen}
-use Rattle.values.specs.Briefs.{is_brief, BriefNumber}
-use Rattle.values.specs.declared.ids.Brief.{Brief}
-use Rattle.values.specs.declared.ids.IntegerAt.{IntegerAt}
-use Rattle.values.specs.declared.ids.IntegerAt.TheVariants as number
-use Rattle.values.specs.declared.ids.Pair.{Pair}
-use Rattle.values.specs.declared.ids.Pair.TheVariants as pair
-use Rattle.values.specs.declared.ids.PairAt.{PairAt}
-use Rattle.values.specs.declared.ids.PairAt.TheVariants as range
-use Rattle.values.specs.declared.ids.Listed.{Listed}
-use Rattle.values.specs.declared.ids.Listed.TheVariants as row
+use Rattle.values.specs.Briefs.{is_brief, BriefNumber, BriefPair}
 use Rattle.values.proofs.Joins.{Refused, Took, Isnt, tag_refused, tag_isnt, tag_took, tag_place, join_first, join_second, join_over, join_both, sift_refused, sift_isnt, sift_took}
 use Rattle.values.proofs.RowReads.{Rowed, row_took}
 use Rattle.values.proofs.BriefReads.{brief_long, brief_tag, brief_least, brief_most, headed, both_taken, of_eight, begun}
 use Rattle.values.proofs.laws.Elements.{integer_laws, pair_laws, number_size, pair_size}
+use Rattle.der.specs.Opening.{Opening}
+use Rattle.std.specs.Prelude.{Result, Ok, Err}
+use Rattle.std.specs.Prelude.{Option, Some, None}
+use Rattle.values.specs.Faults.{Read, Taken}
 
 -- a number of 32 bits in halves
 pub id_halves : (n : ℕ) → n < 2 ^ 32 → ◌≡◌ {A = Halves} (record { upper = 0; lower = n }) (halves n)
 id_halves n h = made 0 n n (omega arith) (omega arith)
 
 -- the row of a range
-pub range_made : {r : Row} (a x y : ℕ) → x < y → r ≡ in_halves (listed_row a (x, y)) → row.Is r ≡ range_seen a x y
-range_made a x y h p = rw (lt-ltb x y h) (ap row.Is p)
+pub range_made : {r : Row} (a x y : ℕ) → x < y → r ≡ in_halves (listed_row a (x, y)) → Some r ≡ range_seen a x y
+range_made a x y h p = rw (lt-ltb x y h) (ap Some p)
 
 -- none where min is not below max
-pub none_made : (a x y : ℕ) → y ≤ x → row.No ≡ range_seen a x y
+pub none_made : (a x y : ℕ) → y ≤ x → None ≡ range_seen a x y
 none_made a x y h = rw (le-ltb x y h)
 
 -- a row is not none
-no_row : {r : Row} → row.Is r ≡ row.No → ⊥
+no_row : {r : Row} → Some r ≡ None → ⊥
 no_row e = let z : ◌≡◌ {A = ℕ} 0 1 = cc in omega arith
 
 -- the ends of `any_integer_at`
 module _ {r : Opening} (s : List ℕ) (p : r ≡ opening_of INTEGER s) where
   -- the head is refused
-  pub integer_refused : (f : Refusal) → r ≡ opening.Bad f → Refused (integer_at s) (length s) f 0
+  pub integer_refused : (f : Refusal) → r ≡ Err f → Refused (integer_at s) (length s) (at 0 f)
   unfolding integer_at
   integer_refused f q = tag_refused INTEGER s p _ f q
 
-  module _ {x : Integer} (k e : ℕ) (q : r ≡ opening.Is k e) (g : x ≡ integer_of (take (e - k) (drop k s))) where
+  module _ {x : Result ℕ BadInteger} (k e : ℕ) (q : r ≡ Ok (k, e)) (g : x ≡ integer_of (take (e - k) (drop k s))) where
     -- the contents are, whatever the cause
-    pub integer_isnt : (v : Integer) → x ≡ v → integer_contents v ≡ isnt (at 0 refusal.Contents) → Refused (integer_at s) (length s) refusal.Contents 0
+    pub integer_isnt : (cause : BadInteger) → x ≡ Err cause → Refused (integer_at s) (length s) (at 0 refusal.Contents)
     unfolding integer_at
-    integer_isnt v h c = tag_isnt INTEGER s p k e q (λ k c. integer_contents (integer_of c)) refusal.Contents 0 (rw (← g, h) c) (omega arith)
+    integer_isnt cause h = tag_isnt INTEGER s p k e q (λ k c. integer_contents (integer_of c)) (at 0 refusal.Contents) (rw (← g, h) refl) (omega arith)
 
     -- a number
-    pub integer_took : (n : ℕ) → x ≡ integer.Is n → Took (integer_at s) s n e
+    pub integer_took : (n : ℕ) → x ≡ Ok n → Took (integer_at s) s n e
     unfolding integer_at
     integer_took n h = tag_took INTEGER s p k e q (λ k c. integer_contents (integer_of c)) n (rw (← g, h) refl)
 
@@ -96,57 +88,60 @@ module _ {r : Bool} {n : ℕ} (s : List ℕ) (p : r ≡ is_brief INTEGER 1 5 s) 
 
   -- a number that takes n octets
   pub number_taken : {v z : ℕ} → Octets s → v ≡ value (take 8 (take 8 (drop 2 s))) → v / 2 ^ (64 - 8 * n) ≤ 4294967295 → z ≡ integer_size (v / 2 ^ (64 - 8 * n)) → z ≡ n
-      → BriefNumber s (record { taken = 2 + n; number = v / 2 ^ (64 - 8 * n) })
+      → BriefNumber s (Some (v / 2 ^ (64 - 8 * n), 2 + n))
   unfolding integer_octets
-  number_taken {v} {z} b e l f g some =
+  number_taken {v} {z} b e l f g =
       let h = brief_long INTEGER 1 5 s p y in
       let c = take n (drop 2 s) in
       let i : length c ≡ n = omega (arith, number_few, length-take n (drop 2 s), length-drop 2 s) in
       let x : v / 2 ^ (64 - 8 * n) ≡ value c = ap (λ (t : ℕ). t / 2 ^ (64 - 8 * n)) e ∙ of_eight n 2 s b (omega (arith, number_few)) (omega arith) in
       let w : octets (integer_size (v / 2 ^ (64 - 8 * n))) (v / 2 ^ (64 - 8 * n)) ≡ c = rw (← f, g, x) (rw i at (value_octets_lem c (octets_part 2 n s b))) in
-      (l, (omega (arith, number_few), rw w (rw (brief_tag INTEGER 1 5 s p y) at (headed n s (omega (arith, number_few)) (sym q) (omega (arith, number_few))))))
+      (omega arith, l, (omega (arith, number_few), rw w (rw (brief_tag INTEGER 1 5 s p y) at (headed n s (omega (arith, number_few)) (sym q) (omega (arith, number_few))))))
 
 -- what `brief_number` took
-module _ {b : Brief} (s : List ℕ) (p : BriefNumber s b) (l : 0 < b.taken) where
+module _ (s : List ℕ) (x k : ℕ) (p : BriefNumber s (Some (x, k))) where
   -- an INTEGER
-  pub brief_took : Took (integer_at s) s b.number b.taken
-  brief_took = let (m, f) = p l in begun integer_laws b.number s b.taken m (omega (arith, number_size b.number)) l f
+  pub brief_took : Took (integer_at s) s x k
+  brief_took = let (l, m, f) = p in begun integer_laws x s k m (omega (arith, number_size x)) l f
 
   -- within s
-  pub brief_inside : b.taken ≤ length s
+  pub brief_inside : k ≤ length s
   brief_inside = brief_took.inside
 
   -- of few octets
-  brief_few : b.taken ≤ 19
+  brief_few : k ≤ 19
   brief_few =
-      let (m, f) = p l in
-      let i : length (take b.taken s) ≤ 19 = rw f.1 (number_size b.number) in
-      omega (arith, length-take b.taken s)
+      let (l, m, f) = p in
+      let i : length (take k s) ≤ 19 = rw f.1 (number_size x) in
+      omega (arith, length-take k s)
 
 -- two of them, the second right after the first
-module _ {b d : Brief} (s : List ℕ) (p : BriefNumber (take (length s - 2) (drop 2 s)) b) (l : 0 < b.taken)
-    (q : BriefNumber (take (length (take (length s - 2) (drop 2 s)) - b.taken) (drop b.taken (take (length s - 2) (drop 2 s)))) d) (m : 0 < d.taken) where
+module _ (s : List ℕ) (x k : ℕ) (p : BriefNumber (take (length s - 2) (drop 2 s)) (Some (x, k))) (y j : ℕ)
+    (q : BriefNumber (take (length (take (length s - 2) (drop 2 s)) - k) (drop k (take (length s - 2) (drop 2 s)))) (Some (y, j))) where
   -- both are few octets
-  pub pair_few : b.taken + d.taken < 2 ^ 64
-  pair_few = omega (arith, brief_few _ p l, brief_few _ q m)
+  pub pair_few : k + j < 2 ^ 64
+  pair_few = omega (arith, brief_few _ x k p, brief_few _ y j q)
 
   -- in a SEQUENCE
-  pub pair_brief : 2 ≤ length s → get_or s 0 0 ≡ SEQUENCE → b.taken + d.taken ≡ get_or s 1 0 → Took (pair_at s) s (b.number, d.number) (2 + b.taken + d.taken)
-  pair_brief h t e =
+  pair_whole : 2 ≤ length s → get_or s 0 0 ≡ SEQUENCE → k + j ≡ get_or s 1 0 → Took (pair_at s) s (x, y) (2 + k + j)
+  pair_whole h t e =
       let u : take (length s - 2) (drop 2 s) ≡ drop 2 s = rest_of 2 s in
-      let (x, g) = rw u at (p l) in
-      let v : take (length (drop 2 s) - b.taken) (drop b.taken (drop 2 s)) ≡ drop b.taken (drop 2 s) = rest_of b.taken (drop 2 s) in
-      let (y, i) = rw (u, v) at (q m) in
-      let k : b.taken + d.taken < 128 = omega (arith, brief_few _ p l, brief_few _ q m) in
-      begun pair_laws (b.number, d.number) s (2 + b.taken + d.taken) (x, y) (omega (arith, pair_size (b.number, d.number))) (omega arith) (rw t at (both_taken s b.taken d.taken _ _ h e k g i))
+      let (l, w, g) = rw u at p in
+      let v : take (length (drop 2 s) - k) (drop k (drop 2 s)) ≡ drop k (drop 2 s) = rest_of k (drop 2 s) in
+      let (m, z, i) = rw (u, v) at q in
+      let f : k + j < 128 = omega (arith, brief_few _ x k p, brief_few _ y j q) in
+      begun pair_laws (x, y) s (2 + k + j) (w, z) (omega (arith, pair_size (x, y))) (omega arith) (rw t at (both_taken s k j _ _ h e f g i))
+
+  pub pair_brief : 2 ≤ length s → get_or s 0 0 ≡ SEQUENCE → k + j ≡ get_or s 1 0 → BriefPair s (Some ((x, y), 2 + k + j))
+  pair_brief h t e = let w = pair_whole h t e in (w.some, w.told, w.inside)
 
 -- what `integer_at` or `any_integer_at` answered
-module _ {r : IntegerAt} (s : List ℕ) (p : integer_seen s r ≡ integer_at s) (i : IntegerIn (length s) r) where
+module _ {r : Taken ℕ} (s : List ℕ) (p : integer_seen s r ≡ integer_at s) (i : IntegerIn (length s) r) where
   -- a refusal
-  integer_bad : (f : Refusal) (q : ℕ) → r ≡ number.Bad f q → Refused (integer_at s) (length s) f q
-  integer_bad f q h = record { told = rw h at p; inside = rw h at i }
+  integer_bad : (f : Fault) → r ≡ Err f → Refused (integer_at s) (length s) f
+  integer_bad f h = record { told = rw h at p; inside = rw h at i }
 
-  module _ (x k : ℕ) (h : r ≡ number.Is x k) where
+  module _ (x k : ℕ) (h : r ≡ Ok (x, k)) where
     -- or a number
     integer_is : Took (integer_at s) s x k
     integer_is = let (l, m) = rw h at i in record { told = rw h at p; some = l; inside = m }
@@ -156,26 +151,26 @@ module _ {r : IntegerAt} (s : List ℕ) (p : integer_seen s r ≡ integer_at s) 
     integer_inside = integer_is.inside
 
 -- the ends of `pair_of`
-module _ {r : IntegerAt} (s : List ℕ) (p : integer_seen s r ≡ integer_at s) (i : IntegerIn (length s) r) where
+module _ {r : Taken ℕ} (s : List ℕ) (p : integer_seen s r ≡ integer_at s) (i : IntegerIn (length s) r) where
   -- min is refused
-  pub pair_first : (f : Refusal) (q : ℕ) → r ≡ number.Bad f q → Isnt (pair_of s) (length s) f q
+  pub pair_first : (f : Fault) → r ≡ Err f → Isnt (pair_of s) (length s) f
   unfolding pair_of
-  pair_first f q h = join_first integer_at (λ x. integer_at) s f q (integer_bad s p i f q h)
+  pair_first f h = join_first integer_at (λ x. integer_at) s f (integer_bad s p i f h)
 
-  module _ {t : IntegerAt} (x k : ℕ) (h : r ≡ number.Is x k) (g : integer_seen (take (length s - k) (drop k s)) t ≡ integer_at (take (length s - k) (drop k s)))
+  module _ {t : Taken ℕ} (x k : ℕ) (h : r ≡ Ok (x, k)) (g : integer_seen (take (length s - k) (drop k s)) t ≡ integer_at (take (length s - k) (drop k s)))
       (l : IntegerIn (length (take (length s - k) (drop k s))) t) where
     -- max is refused
-    pub pair_second : (f : Refusal) (q : ℕ) → t ≡ number.Bad f q → Isnt (pair_of s) (length s) f (k + q)
+    pub pair_second : (f : Fault) → t ≡ Err f → Isnt (pair_of s) (length s) (later k f)
     unfolding pair_of
-    pair_second f q e = join_second integer_at (λ x. integer_at) s x k (integer_is s p i x k h) f q (integer_bad _ g l f q e)
+    pair_second f e = join_second integer_at (λ x. integer_at) s x k (integer_is s p i x k h) f (integer_bad _ g l f e)
 
     -- its place fits
-    pub pair_fits : (f : Refusal) (q : ℕ) → t ≡ number.Bad f q → length s < 2 ^ 64 → k + q < 2 ^ 64
-    pair_fits f q e b = omega (arith, (pair_second f q e).inside)
+    pub pair_fits : (f : Fault) → t ≡ Err f → length s < 2 ^ 64 → k + f.place < 2 ^ 64
+    pair_fits f e b = omega (arith, (pair_second f e).inside)
 
-    module _ (y j : ℕ) (e : t ≡ number.Is y j) where
+    module _ (y j : ℕ) (e : t ≡ Ok (y, j)) where
       -- octets are left
-      pub pair_over : j < length (take (length s - k) (drop k s)) → Isnt (pair_of s) (length s) refusal.OctetsLeft (k + j)
+      pub pair_over : j < length (take (length s - k) (drop k s)) → Isnt (pair_of s) (length s) (at (k + j) refusal.OctetsLeft)
       unfolding pair_of
       pair_over o = join_over integer_at (λ x. integer_at) s x k (integer_is s p i x k h) y j (integer_is _ g l y j e) o
 
@@ -184,63 +179,63 @@ module _ {r : IntegerAt} (s : List ℕ) (p : integer_seen s r ≡ integer_at s) 
       unfolding pair_of
       pair_both o = join_both integer_at (λ x. integer_at) s x k (integer_is s p i x k h) y j (integer_is _ g l y j e) o
 
--- the ends of `as_number_at` and `rdi_number_at`
-module _ {r : IntegerAt} (s : List ℕ) (p : integer_seen s r ≡ integer_at s) (i : IntegerIn (length s) r) where
+-- the ends of `number_at`
+module _ {r : Taken ℕ} (s : List ℕ) (p : integer_seen s r ≡ integer_at s) (i : IntegerIn (length s) r) where
   -- nothing was read
-  pub number_refused : (f : Refusal) (q : ℕ) → r ≡ number.Bad f q → Refused (number_at s) (length s) f q
+  pub number_refused : (f : Fault) → r ≡ Err f → Refused (number_at s) (length s) f
   unfolding number_at
-  number_refused f q h = sift_refused (λ (x : ℕ). is (x, x)) (integer_at s) (length s) f q (integer_bad s p i f q h)
+  number_refused f h = sift_refused (λ (x : ℕ). is (x, x)) (integer_at s) (length s) f (integer_bad s p i f h)
 
   -- a number
-  pub number_took : {w : Row} (a x k : ℕ) → r ≡ number.Is x k → w ≡ in_halves (listed_row a (x, x)) → Rowed (number_at s) a s w k
+  pub number_took : {w : Row} (a x k : ℕ) → r ≡ Ok (x, k) → w ≡ in_halves (listed_row a (x, x)) → Rowed (number_at s) a s w k
   unfolding number_at
   number_took a x k h g = row_took (number_at s) a s x x k g (sift_took (λ (y : ℕ). is (y, y)) (integer_at s) s x k (integer_is s p i x k h) (x, x) refl)
 
 -- the ends of `any_pair_at`
 module _ {o : Opening} (s : List ℕ) (p : o ≡ opening_of SEQUENCE s) where
   -- the head is refused
-  pub pair_refused : (f : Refusal) → o ≡ opening.Bad f → Refused (pair_at s) (length s) f 0
+  pub pair_refused : (f : Refusal) → o ≡ Err f → Refused (pair_at s) (length s) (at 0 f)
   unfolding pair_at
   pair_refused f q = tag_refused SEQUENCE s p _ f q
 
-  module _ {b : Pair} (k e : ℕ) (q : o ≡ opening.Is k e) (g : pair_seen b ≡ pair_of (take (e - k) (drop k s))) where
+  module _ {b : Read (ℕ × ℕ)} (k e : ℕ) (q : o ≡ Ok (k, e)) (g : pair_seen b ≡ pair_of (take (e - k) (drop k s))) where
     -- the contents are
-    pub pair_isnt : (f : Refusal) (j : ℕ) → b ≡ pair.Bad f j → PairIn (length (take (e - k) (drop k s))) b → Refused (pair_at s) (length s) f (k + j)
+    pub pair_isnt : (f : Fault) → b ≡ Err f → PairIn (length (take (e - k) (drop k s))) b → Refused (pair_at s) (length s) (later k f)
     unfolding pair_at
-    pair_isnt f j h i =
-        tag_isnt SEQUENCE s p k e q (λ k c. moved k (pair_of c)) f (k + j) (ap (moved k) (sym (rw h at g))) (tag_place SEQUENCE s p k e q j (rw h at i))
+    pair_isnt f h i =
+        tag_isnt SEQUENCE s p k e q (λ k c. moved k (pair_of c)) (later k f) (ap (moved k) (sym (rw h at g))) (tag_place SEQUENCE s p k e q f.place (rw h at i))
 
     -- their place fits
-    pub pair_place : (f : Refusal) (j : ℕ) → b ≡ pair.Bad f j → PairIn (length (take (e - k) (drop k s))) b → length s < 2 ^ 64 → k + j < 2 ^ 64
-    pair_place f j h i l = omega (arith, (pair_isnt f j h i).inside)
+    pub pair_place : (f : Fault) → b ≡ Err f → PairIn (length (take (e - k) (drop k s))) b → length s < 2 ^ 64 → k + f.place < 2 ^ 64
+    pair_place f h i l = omega (arith, (pair_isnt f h i).inside)
 
     -- min and max
-    pub pair_took : (x y : ℕ) → b ≡ pair.Is x y → Took (pair_at s) s (x, y) e
+    pub pair_took : (x y : ℕ) → b ≡ Ok (x, y) → Took (pair_at s) s (x, y) e
     unfolding pair_at
     pair_took x y h = tag_took SEQUENCE s p k e q (λ k c. moved k (pair_of c)) (x, y) (ap (moved k) (sym (rw h at g)))
 
--- the ends of `as_range_at` and `rdi_range_at`
-module _ {r : PairAt} (s : List ℕ) (p : pair_at_seen s r ≡ pair_at s) (i : PairAtIn (length s) r) where
+-- the ends of `range_at`
+module _ {r : Taken (ℕ × ℕ)} (s : List ℕ) (p : pair_at_seen s r ≡ pair_at s) (i : PairAtIn (length s) r) where
   -- nothing was read
-  pub span_refused : (f : Refusal) (q : ℕ) → r ≡ range.Bad f q → Refused (range_at s) (length s) f q
+  pub span_refused : (f : Fault) → r ≡ Err f → Refused (range_at s) (length s) f
   unfolding range_at
-  span_refused f q h = sift_refused apart (pair_at s) (length s) f q (record { told = rw h at p; inside = rw h at i })
+  span_refused f h = sift_refused apart (pair_at s) (length s) f (record { told = rw h at p; inside = rw h at i })
 
-  module _ {o : Listed} (a x y k : ℕ) (h : r ≡ range.Is x y k) (u : o ≡ range_seen a x y) where
+  module _ {o : Option Row} (a x y k : ℕ) (h : r ≡ Ok ((x, y), k)) (u : o ≡ range_seen a x y) where
     -- min and max
     span_is : Took (pair_at s) s (x, y) k
     span_is = let (l, m) = rw h at i in record { told = rw h at p; some = l; inside = m }
 
     -- min is not below max
-    pub span_none : o ≡ row.No → Refused (range_at s) (length s) refusal.RangeForm 0
+    pub span_none : o ≡ None → Refused (range_at s) (length s) (at 0 refusal.RangeForm)
     unfolding range_at
     span_none z = let e = (pick_not (ltb x y) _ _ _ no_row (sym u ∙ z)).0 in sift_isnt apart (pair_at s) s (x, y) k span_is refusal.RangeForm (rw e refl)
 
     -- a range
-    pub span_took : (w : Row) → o ≡ row.Is w → Rowed (range_at s) a s w k
+    pub span_took : (w : Row) → o ≡ Some w → Rowed (range_at s) a s w k
     unfolding range_at
     span_took w z =
-        let e = pick_is (ltb x y) (row.Is w) _ row.No (λ q. no_row (sym q)) (sym u ∙ z) in
+        let e = pick_is (ltb x y) (Some w) _ None (λ q. no_row (sym q)) (sym u ∙ z) in
         let m = e.1 in
         let g : w ≡ in_halves (listed_row a (x, y)) = cc in
         row_took (range_at s) a s x y k g (sift_took apart (pair_at s) s (x, y) k span_is (x, y) (rw e.0 refl))

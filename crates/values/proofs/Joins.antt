@@ -15,17 +15,17 @@ use Rattle.number.specs.declared.refusal.Refusal.TheVariants as refusal
 use Rattle.number.proofs.Picks.{rest_of}
 use Rattle.der.specs.Opening.{opening_of}
 use Rattle.der.specs.Parts.{Contents, is, isnt, Part, part, nopart, closed, tagged, only, sifted}
-use Rattle.der.specs.declared.heads.Opening.{Opening}
-use Rattle.der.specs.declared.heads.Opening.TheVariants.{Is, Bad}
 use Rattle.der.proofs.Tagged.{tagged_bad, tagged_is}
 use Rattle.der.proofs.laws.Heads.{opens}
-use Rattle.values.specs.Faults.{Fault, at}
+use Rattle.values.specs.Faults.{Fault, at, later}
 use Rattle.values.proofs.Wholes.{over, only_bad, only_over, only_all, paired, two_first, two_second, two_both}
+use Rattle.der.specs.Opening.{Opening}
+use Rattle.std.specs.Prelude.{Ok, Err}
 
--- the part o that n octets begin with is refused, at the place q
-pub record Refused {X : Type 0} (o : Part X Fault) (n : ℕ) (f : Refusal) (q : ℕ) : Type 0 where
-  pub told : nopart (at q f) ≡ o
-  pub inside : q ≤ n
+-- the part o that n octets begin with is refused
+pub record Refused {X : Type 0} (o : Part X Fault) (n : ℕ) (f : Fault) : Type 0 where
+  pub told : nopart f ≡ o
+  pub inside : f.place ≤ n
 
 -- the part o that s begins with is x, in the first k octets
 pub record Took {X : Type 0} (o : Part X Fault) (s : List ℕ) (x : X) (k : ℕ) : Type 0 where
@@ -33,23 +33,23 @@ pub record Took {X : Type 0} (o : Part X Fault) (s : List ℕ) (x : X) (k : ℕ)
   pub some : 0 < k
   pub inside : k ≤ length s
 
--- contents o of n octets are refused, at the place q
-pub record Isnt {X : Type 0} (o : Contents X Fault) (n : ℕ) (f : Refusal) (q : ℕ) : Type 0 where
-  pub told : isnt (at q f) ≡ o
-  pub inside : q ≤ n
+-- contents o of n octets are refused
+pub record Isnt {X : Type 0} (o : Contents X Fault) (n : ℕ) (f : Fault) : Type 0 where
+  pub told : isnt f ≡ o
+  pub inside : f.place ≤ n
 
 -- as a contract has them
 -- two facts as the clauses of a contract
 pub clauses : {A B C : Type 0} → (A → B → C) → A × B → C
 clauses said p = said p.0 p.1
 
-pub refused : {X : Type 0} {o : Part X Fault} {n : ℕ} {f : Refusal} {q : ℕ} → Refused o n f q → (nopart (at q f) ≡ o) × (q ≤ n)
+pub refused : {X : Type 0} {o : Part X Fault} {n : ℕ} {f : Fault} → Refused o n f → (nopart f ≡ o) × (f.place ≤ n)
 refused r = (r.told, r.inside)
 
 pub took : {X : Type 0} {o : Part X Fault} {s : List ℕ} {x : X} {k : ℕ} → Took o s x k → (part x (drop k s) ≡ o) × ((0 < k) × (k ≤ length s))
 took t = (t.told, (t.some, t.inside))
 
-pub isnt_so : {X : Type 0} {o : Contents X Fault} {n : ℕ} {f : Refusal} {q : ℕ} → Isnt o n f q → (isnt (at q f) ≡ o) × (q ≤ n)
+pub isnt_so : {X : Type 0} {o : Contents X Fault} {n : ℕ} {f : Fault} → Isnt o n f → (isnt f ≡ o) × (f.place ≤ n)
 isnt_so r = (r.told, r.inside)
 
 -- nothing begins with no tag
@@ -60,10 +60,10 @@ no_tag (b ∷ s) t h l e = omega arith
 -- an element with the tag t: the code's opening
 module _ {r : Opening} (t : ℕ) (s : List ℕ) (p : r ≡ opening_of t s) where
   -- refused at its head
-  pub tag_refused : {X : Type 0} (inner : ℕ → List ℕ → Contents X Fault) (f : Refusal) → r ≡ Bad f → Refused (tagged (at 0) t inner s) (length s) f 0
+  pub tag_refused : {X : Type 0} (inner : ℕ → List ℕ → Contents X Fault) (f : Refusal) → r ≡ Err f → Refused (tagged (at 0) t inner s) (length s) (at 0 f)
   tag_refused inner f q = record { told = sym (tagged_bad (at 0) t inner s f (sym p ∙ q)); inside = omega arith }
 
-  module _ (k e : ℕ) (q : r ≡ Is k e) where
+  module _ (k e : ℕ) (q : r ≡ Ok (k, e)) where
     -- its contents start before they end
     pub tag_order : k ≤ e
     tag_order = (opens t s k e p q).order
@@ -78,8 +78,8 @@ module _ {r : Opening} (t : ℕ) (s : List ℕ) (p : r ≡ opening_of t s) where
 
     module _ {X : Type 0} (inner : ℕ → List ℕ → Contents X Fault) where
       -- refused by its contents, at a place in s
-      pub tag_isnt : (f : Refusal) (j : ℕ) → inner k (take (e - k) (drop k s)) ≡ isnt (at j f) → j ≤ length s → Refused (tagged (at 0) t inner s) (length s) f j
-      tag_isnt f j h l = record { told = sym (tagged_is (at 0) t inner s k e (sym p ∙ q) ∙ ap (λ (o : Contents X Fault). closed o (drop e s)) h); inside = l }
+      pub tag_isnt : (f : Fault) → inner k (take (e - k) (drop k s)) ≡ isnt f → f.place ≤ length s → Refused (tagged (at 0) t inner s) (length s) f
+      tag_isnt f h l = record { told = sym (tagged_is (at 0) t inner s k e (sym p ∙ q) ∙ ap (λ (o : Contents X Fault). closed o (drop e s)) h); inside = l }
 
       -- read
       pub tag_took : (x : X) → inner k (take (e - k) (drop k s)) ≡ is x → Took (tagged (at 0) t inner s) s x e
@@ -96,16 +96,16 @@ joined dec next = only over (paired dec next)
 
 module _ {X Y : Type 0} (dec : List ℕ → Part X Fault) (next : X → List ℕ → Part Y Fault) (s : List ℕ) where
   -- the first part is refused
-  pub join_first : (f : Refusal) (q : ℕ) → Refused (dec s) (length s) f q → Isnt (joined dec next s) (length s) f q
-  join_first f q r = record { told = only_bad (paired dec next) s (at q f) (two_first dec next s (at q f) r.told); inside = r.inside }
+  pub join_first : (f : Fault) → Refused (dec s) (length s) f → Isnt (joined dec next s) (length s) f
+  join_first f r = record { told = only_bad (paired dec next) s f (two_first dec next s f r.told); inside = r.inside }
 
   module _ (x : X) (k : ℕ) (t : Took (dec s) s x k) where
     -- the second part is refused: it is read in `&s[k..]`
-    pub join_second : (f : Refusal) (q : ℕ) → Refused (next x (take (length s - k) (drop k s))) (length (take (length s - k) (drop k s))) f q → Isnt (joined dec next s) (length s) f (k + q)
-    join_second f q h =
+    pub join_second : (f : Fault) → Refused (next x (take (length s - k) (drop k s))) (length (take (length s - k) (drop k s))) f → Isnt (joined dec next s) (length s) (later k f)
+    join_second f h =
         let r = rw rest_of at h in
         record {
-          told = only_bad (paired dec next) s (at (k + q) f) (two_second dec next s x k t.told t.inside (at q f) r.told);
+          told = only_bad (paired dec next) s (later k f) (two_second dec next s x k t.told t.inside f r.told);
           inside = omega (arith, t.inside, r.inside, length-drop k s);
         }
 
@@ -114,7 +114,7 @@ module _ {X Y : Type 0} (dec : List ℕ → Part X Fault) (next : X → List ℕ
       both = let u = rw rest_of at h in two_both dec next s x k t.told t.inside y j u.told
 
       -- octets are left
-      pub join_over : j < length (take (length s - k) (drop k s)) → Isnt (joined dec next s) (length s) refusal.OctetsLeft (k + j)
+      pub join_over : j < length (take (length s - k) (drop k s)) → Isnt (joined dec next s) (length s) (at (k + j) refusal.OctetsLeft)
       join_over g =
           let i : j < length (drop k s) = rw rest_of at g in
           let l : k + j < length s = omega (arith, length-drop k s) in
@@ -129,12 +129,12 @@ module _ {X Y : Type 0} (dec : List ℕ → Part X Fault) (next : X → List ℕ
 -- what was read, seen as something else
 module _ {X Y : Type 0} (f : X → Contents Y Fault) (o : Part X Fault) where
   -- nothing was read
-  pub sift_refused : (n : ℕ) (r : Refusal) (q : ℕ) → Refused o n r q → Refused (sifted f o) n r q
-  sift_refused n r q p = record { told = rw (← p.told) refl; inside = p.inside }
+  pub sift_refused : (n : ℕ) (r : Fault) → Refused o n r → Refused (sifted f o) n r
+  sift_refused n r p = record { told = rw (← p.told) refl; inside = p.inside }
 
   module _ (s : List ℕ) (x : X) (k : ℕ) (t : Took o s x k) where
     -- it is refused
-    pub sift_isnt : (r : Refusal) → f x ≡ isnt (at 0 r) → Refused (sifted f o) (length s) r 0
+    pub sift_isnt : (r : Refusal) → f x ≡ isnt (at 0 r) → Refused (sifted f o) (length s) (at 0 r)
     sift_isnt r h = record { told = rw (← t.told, h) refl; inside = omega arith }
 
     -- or taken

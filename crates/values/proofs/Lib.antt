@@ -10,6 +10,7 @@ pub mod FamilyReads
 pub mod Filling
 pub mod IdReads
 pub mod Joins
+pub mod Exits
 pub mod Listing
 pub mod MemberReads
 pub mod Parting

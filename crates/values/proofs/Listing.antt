@@ -13,7 +13,6 @@ use lib.Dec.{ltb}
 use borrow.Author.Tests.{ltb-true, ltb-false, le-ltb, lt-ltb, le-leb, lt-leb, eq-eqb, ne_eqb}
 use Rattle.number.specs.Halves.{bits, whole}
 use Rattle.number.specs.declared.halves.Halves.{Halves}
-use Rattle.number.specs.declared.refusal.Refusal.{Refusal}
 use Rattle.number.specs.declared.refusal.Refusal.TheVariants as refusal
 use Rattle.number.proofs.Picks.{rest_of}
 use Rattle.table.specs.Sizes.{max_rows}
@@ -24,8 +23,8 @@ use Rattle.table.proofs.laws.Rows.{with_rows_snoc}
 use Rattle.der.specs.Walk.{got, no}
 use Rattle.der.specs.Parts.{admitted}
 use Rattle.der.proofs.Held.{Held, held_start, held_end, held_exit, held_turn}
+use Rattle.values.specs.Faults.{Fault, at, later, Read, Taken}
 use Rattle.values.specs.Limits.{as_numbers, routing_domains}
-use Rattle.values.specs.Faults.{at}
 use Rattle.values.specs.Spaces.{space_number}
 use Rattle.values.specs.Addresses.{address_at}
 use Rattle.values.specs.Ids.{id_at}
@@ -35,13 +34,10 @@ use Rattle.values.specs.Seen.{Reached, found_seen, FoundIn}
 use Rattle.values.specs.Into.{Stands, CountedInto}
 use Rattle.values.specs.declared.elements.Space.{Space}
 use Rattle.values.specs.declared.elements.Space.TheVariants as space
-use Rattle.values.specs.declared.elements.Counted.{Counted}
-use Rattle.values.specs.declared.elements.Counted.TheVariants as counted
-use Rattle.values.specs.declared.addresses.Found.{Found}
-use Rattle.values.specs.declared.addresses.Found.TheVariants as found
 use Rattle.values.proofs.laws.Choices.{listed-length}
 use Rattle.values.proofs.Wholes.{before}
 use Rattle.values.proofs.Filling.{stands_still, stands_row, stands_on, counted_is, counted_not}
+use Rattle.std.specs.Prelude.{Ok, Err}
 
 -- THE ORDER
 
@@ -62,11 +58,11 @@ least_later place last low b h e = rw (ne_eqb place 0 h) (go b (sym e))
 -- ONE ELEMENT
 
 -- what is said of an element of the space a
-abbrev Said : Space → List ℕ → Found → Type 0
+abbrev Said : Space → List ℕ → (Taken code.Row) → Type 0
 Said a s r = (found_seen s r ≡ element_at a s) × FoundIn (space_number a) (length s) r
 
 -- by what is said of it in each kind of list
-module _ (a : Space) (s : List ℕ) (r : Found) where
+module _ (a : Space) (s : List ℕ) (r : Taken code.Row) where
   -- an address
   pub an_address : (n : ℕ) → a ≡ space.Addresses n → found_seen s r ≡ address_at (bits (width_of n)) s → FoundIn n (length s) r → Said a s r
   an_address n e p q = rw e (p, q)
@@ -81,13 +77,13 @@ module _ (a : Space) (s : List ℕ) (r : Found) where
 
 -- ONE STEP
 
-module _ (a : Space) (σ : Place) (s : List ℕ) (r : Found) (e : found_seen s r ≡ element_at a s) where
+module _ (a : Space) (σ : Place) (s : List ℕ) (r : Taken code.Row) (e : found_seen s r ≡ element_at a s) where
   -- no element
-  step_bad : (f : Refusal) (q : ℕ) → r ≡ found.Bad f q → element_step a σ s ≡ no (at (σ.0 + q) f)
+  step_bad : (f : Fault) → r ≡ Err f → element_step a σ s ≡ no (later σ.0 f)
   unfolding element_step admitted
-  step_bad f q p = rw (← e, p)
+  step_bad f p = rw (← e, p)
 
-  module _ (row : code.Row) (k : ℕ) (p : r ≡ found.Is row k) where
+  module _ (row : code.Row) (k : ℕ) (p : r ≡ Ok (row, k)) where
     -- one that is too early
     step_early : ltb (whole row.low) σ.1 ≡ true → element_step a σ s ≡ no (at σ.0 refusal.ElementOrder)
     unfolding element_step admitted admit_row
@@ -105,21 +101,21 @@ module _ (a : Space) (σ : Place) (s : List ℕ) (r : Found) (e : found_seen s r
     step_row h l m = rw (← e, p, h, lt-leb max_rows σ.2 l, before k s m)
 
 -- what is said of its numbers
-module _ (a m : ℕ) (r : Found) (h : FoundIn a m r) where
+module _ (a m : ℕ) (r : Taken code.Row) (h : FoundIn a m r) where
   -- the place of a refusal
-  found_fault : (f : Refusal) (q : ℕ) → r ≡ found.Bad f q → q ≤ m
-  found_fault f q p = rw p at h
+  found_fault : (f : Fault) → r ≡ Err f → f.place ≤ m
+  found_fault f p = rw p at h
 
   -- the row and its end
-  found_row : (row : code.Row) (k : ℕ) → r ≡ found.Is row k → (row.space ≡ a) × (row.inherit ≡ 0) × Reached m k
+  found_row : (row : code.Row) (k : ℕ) → r ≡ Ok (row, k) → (row.space ≡ a) × (row.inherit ≡ 0) × Reached m k
   found_row row k p = rw p at h
 
   -- the end alone
-  pub found_end : (row : code.Row) (k : ℕ) → r ≡ found.Is row k → k ≤ m
+  pub found_end : (row : code.Row) (k : ℕ) → r ≡ Ok (row, k) → k ≤ m
   found_end row k p = (found_row row k p).2.1
 
 -- the row in whole numbers
-found_seen_lem : (a m : ℕ) (r : Found) (row : code.Row) (k : ℕ) → FoundIn a m r → r ≡ found.Is row k → seen row ≡ listed_row a (whole row.low, whole row.high)
+found_seen_lem : (a m : ℕ) (r : Taken code.Row) (row : code.Row) (k : ℕ) → FoundIn a m r → r ≡ Ok (row, k) → seen row ≡ listed_row a (whole row.low, whole row.high)
 found_seen_lem a m r row k h p = let (x, y, z) = found_row a m r h row k p in rw (x, y)
 
 -- ROWS OF A LIST
@@ -136,7 +132,7 @@ abbrev State : List ℕ → List ℕ → ℕ → Halves → Place
 State s rest n last = (length s - length rest, least_at (length s - length rest) (whole last), n)
 
 -- and what `read` promises
-abbrev Promised : Space → List ℕ → ℕ → List ℕ → Counted → List ℕ → Type 0
+abbrev Promised : Space → List ℕ → ℕ → List ℕ → (Read ℕ) → List ℕ → Type 0
 Promised a s count t₀ r t = CountedInto (listed_rows (space_number a)) (length s) count t₀ (elements_of a count s) r t
 
 -- at the loop's head: the elements that were read, and their rows in the table
@@ -168,33 +164,33 @@ shorter k rest a b = rw length-drop (omega arith)
 
 module _ {a : Space} {s : List ℕ} {count : ℕ} {t₀ t rest : List ℕ} {n : ℕ} {last : Halves} (v : Reading a s count t₀ t rest n last) where
   -- nothing is left
-  pub reading_end : length rest ≤ 0 → Promised a s count t₀ (counted.Rows n) t
+  pub reading_end : length rest ≤ 0 → Promised a s count t₀ (Ok n) t
   reading_end h =
       let e : n ≡ count + length (listed_rows (space_number a) v.read) = v.rows ∙ rw (listed-length (space_number a) v.read) in
-      counted_is (listed_rows (space_number a)) (length s) count t₀ t (elements_of a count s) (counted.Rows n) v.read (held_end v.held h) (ap counted.Rows e) v.table v.stands
+      counted_is (listed_rows (space_number a)) (length s) count t₀ t (elements_of a count s) (Ok n) v.read (held_end v.held h) (ap Ok e) v.table v.stands
 
   -- the step refuses
-  refused : (p : ℕ) (f : Refusal) → 0 < length rest → element_step a (State s rest n last) rest ≡ no (at p f) → p ≤ length s
-      → Promised a s count t₀ (counted.Bad f p) t
-  refused p f h e l = counted_not (listed_rows (space_number a)) (length s) count t₀ t (elements_of a count s) (counted.Bad f p) p f (held_exit v.held (at p f) h e) refl l v.stands
+  refused : (f : Fault) → 0 < length rest → element_step a (State s rest n last) rest ≡ no f → f.place ≤ length s
+      → Promised a s count t₀ (Err f) t
+  refused f h e l = counted_not (listed_rows (space_number a)) (length s) count t₀ t (elements_of a count s) (Err f) f (held_exit v.held f h e) refl l v.stands
 
-  module _ (r : Found) (h : 0 < length rest) (e : found_seen rest r ≡ element_at a rest) (i : FoundIn (space_number a) (length rest) r) where
+  module _ (r : Taken code.Row) (h : 0 < length rest) (e : found_seen rest r ≡ element_at a rest) (i : FoundIn (space_number a) (length rest) r) where
     -- the place of its refusal is a number of the code
-    pub fault_fits : (f : Refusal) (q : ℕ) → r ≡ found.Bad f q → length s < 2 ^ 64 → length s - length rest + q < 2 ^ 64
-    fault_fits f q p l = omega (arith, v.inside, found_fault (space_number a) (length rest) r i f q p)
+    pub fault_fits : (f : Fault) → r ≡ Err f → length s < 2 ^ 64 → length s - length rest + f.place < 2 ^ 64
+    fault_fits f p l = omega (arith, v.inside, found_fault (space_number a) (length rest) r i f p)
 
     -- at an element
-    pub reading_bad : (f : Refusal) (q : ℕ) → r ≡ found.Bad f q → Promised a s count t₀ (counted.Bad f (length s - length rest + q)) t
-    reading_bad f q p = refused (length s - length rest + q) f h (step_bad a _ rest r e f q p) (omega (arith, v.inside, found_fault (space_number a) (length rest) r i f q p))
+    pub reading_bad : (f : Fault) → r ≡ Err f → Promised a s count t₀ (Err (later (length s - length rest) f)) t
+    reading_bad f p = refused (later (length s - length rest) f) h (step_bad a _ rest r e f p) (omega (arith, v.inside, found_fault (space_number a) (length rest) r i f p))
 
-    module _ (row : code.Row) (k : ℕ) (p : r ≡ found.Is row k) (b : Bool) (g : b ≡ ltb (whole row.low) (least_at (length s - length rest) (whole last))) where
+    module _ (row : code.Row) (k : ℕ) (p : r ≡ Ok (row, k)) (b : Bool) (g : b ≡ ltb (whole row.low) (least_at (length s - length rest) (whole last))) where
       -- at its order
-      pub reading_early : b ≡ true → Promised a s count t₀ (counted.Bad refusal.ElementOrder (length s - length rest)) t
-      reading_early q = refused (length s - length rest) refusal.ElementOrder h (step_early a _ rest r e row k p (sym g ∙ q)) (omega arith)
+      pub reading_early : b ≡ true → Promised a s count t₀ (Err (at (length s - length rest) refusal.ElementOrder)) t
+      reading_early q = refused (at (length s - length rest) refusal.ElementOrder) h (step_early a _ rest r e row k p (sym g ∙ q)) (omega arith)
 
       -- at the rows
-      pub reading_full : b ≡ false → max_rows ≤ n → Promised a s count t₀ (counted.Bad refusal.RowCount (length s - length rest)) t
-      reading_full q l = refused (length s - length rest) refusal.RowCount h (step_full a _ rest r e row k p (sym g ∙ q) l) (omega arith)
+      pub reading_full : b ≡ false → max_rows ≤ n → Promised a s count t₀ (Err (at (length s - length rest) refusal.RowCount)) t
+      reading_full q l = refused (at (length s - length rest) refusal.RowCount) h (step_full a _ rest r e row k p (sym g ∙ q) l) (omega arith)
 
       -- one row more
       pub reading_turn : (t' : List ℕ) → b ≡ false → n < max_rows → t' ≡ with_row t n (seen row) → Reading a s count t₀ t' (take (length rest - k) (drop k rest)) (n + 1) row.high
@@ -205,12 +201,12 @@ module _ {a : Space} {s : List ℕ} {count : ℕ} {t₀ t rest : List ℕ} {n : 
           let d = length-drop k rest in
           let m = v.inside in
           let place : length s - length (drop k rest) ≡ length s - length rest + k = omega arith in
-          let later : length s - length rest + k ≡ 0 → ⊥ = omega arith in
+          let more : length s - length rest + k ≡ 0 → ⊥ = omega arith in
           let c : n ≡ count + length (listed_rows (space_number a) v.read) = v.rows ∙ rw (listed-length (space_number a) v.read) in
           rw (rest_of k rest)
           (record {
             read = v.read ++ ((whole row.low, whole row.high) ∷ []);
-            held = rw (place, ne_eqb (length s - length rest + k) 0 later) (held_turn v.held _ _ (drop k rest) h (step_row a _ rest r e row k p (sym g ∙ q) l z.1) w);
+            held = rw (place, ne_eqb (length s - length rest + k) 0 more) (held_turn v.held _ _ (drop k rest) h (step_row a _ rest r e row k p (sym g ∙ q) l z.1) w);
             table = u ∙ rw (found_seen_lem (space_number a) (length rest) r row k i p, v.table, listed_snoc, with_rows_snoc, ← c);
             rows = rw length-append (omega (arith, v.rows));
             stands = rw u (stands_on v.stands (stands_row t n (seen row) l));
@@ -218,5 +214,5 @@ module _ {a : Space} {s : List ℕ} {count : ℕ} {t₀ t rest : List ℕ} {n : 
           })
 
 -- a turn leaves less
-pub turn_less : (a : ℕ) (r : Found) (rest : List ℕ) (row : code.Row) (k : ℕ) → FoundIn a (length rest) r → r ≡ found.Is row k → 0 < length rest → length (take (length rest - k) (drop k rest)) < length rest
+pub turn_less : (a : ℕ) (r : Taken code.Row) (rest : List ℕ) (row : code.Row) (k : ℕ) → FoundIn a (length rest) r → r ≡ Ok (row, k) → 0 < length rest → length (take (length rest - k) (drop k rest)) < length rest
 turn_less a r rest row k h p l = rw (rest_of k rest) (shorter k rest l (found_row a (length rest) r h row k p).2.0)

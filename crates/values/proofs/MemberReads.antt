@@ -16,11 +16,9 @@ use Rattle.number.proofs.Picks.{rest_of}
 use Rattle.der.specs.Tags.{SEQUENCE}
 use Rattle.der.specs.Opening.{opening_of}
 use Rattle.der.specs.Parts.{Contents, is, isnt, part, nopart}
-use Rattle.der.specs.declared.heads.Opening.{Opening}
-use Rattle.der.specs.declared.heads.Opening.TheVariants as opening
 use Rattle.der.proofs.laws.Heads.{opens}
+use Rattle.values.specs.Faults.{Fault, at, later, moved, Read, Taken, read_after}
 use Rattle.values.specs.Limits.{ASNUM, RDI, as_numbers, routing_domains}
-use Rattle.values.specs.Faults.{Fault, at, moved}
 use Rattle.values.specs.Spaces.{space_number}
 use Rattle.values.specs.Choices.{Choice, choice_at, choice_rows}
 use Rattle.values.specs.Identifiers.{member_of, member_at, numbers, domains, both, taken, last_of, after, first_of, members_of, some_members, read_identifiers}
@@ -28,94 +26,92 @@ use Rattle.values.specs.Tables.{identifiers_rows}
 use Rattle.values.specs.Into.{CountedInto, ChosenInto}
 use Rattle.values.specs.declared.elements.Space.{Space}
 use Rattle.values.specs.declared.elements.Space.TheVariants as space
-use Rattle.values.specs.declared.elements.Counted.{Counted}
-use Rattle.values.specs.declared.elements.Counted.TheVariants as counted
-use Rattle.values.specs.declared.choices.Chosen.{Chosen}
-use Rattle.values.specs.declared.choices.Chosen.TheVariants as chosen
 use Rattle.values.proofs.Joins.{tag_refused, tag_isnt, tag_took, tag_place, tag_inside}
 use Rattle.values.proofs.Filling.{stands_still, stands_on, counted_is, counted_not, chosen_is, chosen_not}
 use Rattle.values.proofs.Wholes.{before, only_bad, only_over, only_all}
 use Rattle.values.proofs.ValueReads.{value_bad, value_none, value_place, value_isnt, value_over, value_all}
 use Rattle.values.proofs.Answers.{rows_on, count_on, chosen_bad, chosen_rows, counted_bad, counted_rows}
+use Rattle.der.specs.Opening.{Opening}
+use Rattle.std.specs.Prelude.{Ok, Err}
 
 -- A MEMBER
 
 module _ (tag : ℕ) (a : Space) (n : ℕ) (s t : List ℕ) (o : Opening) (p : o ≡ opening_of tag s) where
   -- it has not the tag
-  pub member_bad : (f : Refusal) → o ≡ opening.Bad f → ChosenInto (space_number a) s n t (member_at tag a n s) (chosen.Bad f 0) t
+  pub member_bad : (f : Refusal) → o ≡ Err f → ChosenInto (space_number a) s n t (member_at tag a n s) (Err (at 0 f)) t
   unfolding member_at
-  member_bad f q = chosen_not (space_number a) s n t t _ _ 0 f (sym (tag_refused tag s p _ f q).told) refl (omega arith) (stands_still t)
+  member_bad f q = chosen_not (space_number a) s n t t _ _ (at 0 f) (sym (tag_refused tag s p _ f q).told) refl (omega arith) (stands_still t)
 
-  module _ (k e : ℕ) (q : o ≡ opening.Is k e) (t' : List ℕ) (r : Chosen)
+  module _ (k e : ℕ) (q : o ≡ Ok (k, e)) (t' : List ℕ) (r : Taken ℕ)
       (h : ChosenInto (space_number a) (take (e - k) (drop k s)) n t (choice_at a n (take (e - k) (drop k s))) r t') where
     -- what it wraps
     abbrev inner : List ℕ
     inner = take (e - k) (drop k s)
 
     -- a place of that is one of the member
-    member_place : (f : Refusal) (j : ℕ) → r ≡ chosen.Bad f j → k + j ≤ length s
-    member_place f j u = tag_place tag s p k e q j (chosen_bad (space_number a) inner n t t' r (choice_at a n inner) h f j u).inside
+    member_place : (f : Fault) → r ≡ Err f → k + f.place ≤ length s
+    member_place f u = tag_place tag s p k e q f.place (chosen_bad (space_number a) inner n t t' r (choice_at a n inner) h f u).inside
 
-    pub member_fits : (f : Refusal) (j : ℕ) → r ≡ chosen.Bad f j → length s < 2 ^ 64 → k + j < 2 ^ 64
-    member_fits f j u = lt_of_le_of_lt (member_place f j u)
+    pub member_fits : (f : Fault) → r ≡ Err f → length s < 2 ^ 64 → k + f.place < 2 ^ 64
+    member_fits f u = lt_of_le_of_lt (member_place f u)
 
     -- by what that is
-    member_no : (f : Refusal) (j : ℕ) → isnt (at j f) ≡ member_of a n inner → k + j ≤ length s → nopart (at (k + j) f) ≡ member_at tag a n s
+    member_no : (f : Fault) → isnt f ≡ member_of a n inner → k + f.place ≤ length s → nopart (later k f) ≡ member_at tag a n s
     unfolding member_at
-    member_no f j w l = (tag_isnt tag s p k e q (λ k c. moved k (member_of a n c)) f (k + j) (rw (← w) refl) l).told
+    member_no f w l = (tag_isnt tag s p k e q (λ k c. moved k (member_of a n c)) (later k f) (rw (← w) refl) l).told
 
     member_yes : (c : Choice) → is c ≡ member_of a n inner → part c (drop e s) ≡ member_at tag a n s
     unfolding member_at
     member_yes c w = (tag_took tag s p k e q (λ k c. moved k (member_of a n c)) c (rw (← w) refl)).told
 
     -- that is refused
-    pub member_isnt : (f : Refusal) (j : ℕ) → r ≡ chosen.Bad f j → ChosenInto (space_number a) s n t (member_at tag a n s) (chosen.Bad f (k + j)) t'
+    pub member_isnt : (f : Fault) → r ≡ Err f → ChosenInto (space_number a) s n t (member_at tag a n s) (Err (later k f)) t'
     unfolding member_of
-    member_isnt f j u =
-        let d = chosen_bad (space_number a) inner n t t' r (choice_at a n inner) h f j u in
-        let l = member_place f j u in
-        chosen_not (space_number a) s n t t' _ _ (k + j) f (sym (member_no f j (only_bad (choice_at a n) inner (at j f) d.was) l)) refl l d.stands
+    member_isnt f u =
+        let d = chosen_bad (space_number a) inner n t t' r (choice_at a n inner) h f u in
+        let l = member_place f u in
+        chosen_not (space_number a) s n t t' _ _ (later k f) (sym (member_no f (only_bad (choice_at a n) inner f d.was) l)) refl l d.stands
 
-    module _ (m j : ℕ) (u : r ≡ chosen.Rows m j) where
+    module _ (m j : ℕ) (u : r ≡ Ok (m, j)) where
       -- octets are left in it
-      pub member_over : j < length inner → ChosenInto (space_number a) s n t (member_at tag a n s) (chosen.Bad refusal.OctetsLeft (k + j)) t'
+      pub member_over : j < length inner → ChosenInto (space_number a) s n t (member_at tag a n s) (Err (at (k + j) refusal.OctetsLeft)) t'
       unfolding member_of
       member_over b =
           let (g, i) = chosen_rows (space_number a) inner n t t' r (choice_at a n inner) h m j u in
           let l = tag_place tag s p k e q j i in
-          chosen_not (space_number a) s n t t' _ _ (k + j) refusal.OctetsLeft (sym (member_no refusal.OctetsLeft j (only_over (choice_at a n) inner g.read j g.was b) l)) refl l g.stands
+          chosen_not (space_number a) s n t t' _ _ (at (k + j) refusal.OctetsLeft) (sym (member_no (at j refusal.OctetsLeft) (only_over (choice_at a n) inner g.read j g.was b) l)) refl l g.stands
 
       -- none is
-      pub member_all : length inner ≤ j → ChosenInto (space_number a) s n t (member_at tag a n s) (chosen.Rows m e) t'
+      pub member_all : length inner ≤ j → ChosenInto (space_number a) s n t (member_at tag a n s) (Ok (m, e)) t'
       unfolding member_of
       member_all b =
           let (g, i) = chosen_rows (space_number a) inner n t t' r (choice_at a n inner) h m j u in
-          chosen_is (space_number a) s n t t' _ _ g.read e (sym (member_yes g.read (only_all (choice_at a n) inner g.read j g.was b))) (ap (λ (x : ℕ). chosen.Rows x e) g.count) (tag_inside tag s p k e q) g.table g.stands
+          chosen_is (space_number a) s n t t' _ _ g.read e (sym (member_yes g.read (only_all (choice_at a n) inner g.read j g.was b))) (ap (λ (x : ℕ). Ok (x, e)) g.count) (tag_inside tag s p k e q) g.table g.stands
 
 -- [1] ALONE
 
-module _ (n : ℕ) (s t t' : List ℕ) (r : Chosen) (h : ChosenInto routing_domains s n t (member_at RDI space.RoutingDomains n s) r t') where
+module _ (n : ℕ) (s t t' : List ℕ) (r : Taken ℕ) (h : ChosenInto routing_domains s n t (member_at RDI space.RoutingDomains n s) r t') where
   -- it is refused
-  pub last_isnt : (f : Refusal) (j : ℕ) → r ≡ chosen.Bad f j → CountedInto (choice_rows routing_domains) (length s) n t (last_of n s) (counted.Bad f j) t'
+  pub last_isnt : (f : Fault) → r ≡ Err f → CountedInto (choice_rows routing_domains) (length s) n t (last_of n s) (Err f) t'
   unfolding last_of
-  last_isnt f j u =
-      let d = chosen_bad routing_domains s n t t' r (member_at RDI space.RoutingDomains n s) h f j u in
-      counted_not (choice_rows routing_domains) (length s) n t t' _ _ j f (only_bad (member_at RDI space.RoutingDomains n) s (at j f) d.was) refl d.inside d.stands
+  last_isnt f u =
+      let d = chosen_bad routing_domains s n t t' r (member_at RDI space.RoutingDomains n s) h f u in
+      counted_not (choice_rows routing_domains) (length s) n t t' _ _ f (only_bad (member_at RDI space.RoutingDomains n) s f d.was) refl d.inside d.stands
 
-  module _ (m e : ℕ) (u : r ≡ chosen.Rows m e) where
+  module _ (m e : ℕ) (u : r ≡ Ok (m, e)) where
     -- octets are left
-    pub last_over : e < length s → CountedInto (choice_rows routing_domains) (length s) n t (last_of n s) (counted.Bad refusal.OctetsLeft e) t'
+    pub last_over : e < length s → CountedInto (choice_rows routing_domains) (length s) n t (last_of n s) (Err (at e refusal.OctetsLeft)) t'
     unfolding last_of
     last_over l =
         let (g, i) = chosen_rows routing_domains s n t t' r (member_at RDI space.RoutingDomains n s) h m e u in
-        counted_not (choice_rows routing_domains) (length s) n t t' _ _ e refusal.OctetsLeft (only_over (member_at RDI space.RoutingDomains n) s g.read e g.was l) refl i g.stands
+        counted_not (choice_rows routing_domains) (length s) n t t' _ _ (at e refusal.OctetsLeft) (only_over (member_at RDI space.RoutingDomains n) s g.read e g.was l) refl i g.stands
 
     -- none is
-    pub last_all : length s ≤ e → CountedInto (choice_rows routing_domains) (length s) n t (last_of n s) (counted.Rows m) t'
+    pub last_all : length s ≤ e → CountedInto (choice_rows routing_domains) (length s) n t (last_of n s) (Ok m) t'
     unfolding last_of
     last_all l =
         let (g, i) = chosen_rows routing_domains s n t t' r (member_at RDI space.RoutingDomains n s) h m e u in
-        counted_is (choice_rows routing_domains) (length s) n t t' _ _ g.read (only_all (member_at RDI space.RoutingDomains n) s g.read e g.was l) (ap counted.Rows g.count) g.table g.stands
+        counted_is (choice_rows routing_domains) (length s) n t t' _ _ g.read (only_all (member_at RDI space.RoutingDomains n) s g.read e g.was l) (ap Ok g.count) g.table g.stands
 
 -- [0], AND [1] OR NOTHING
 
@@ -129,23 +125,23 @@ module _ (n m : ℕ) (c : Choice) where
   after_more [] h = absurd (omega arith)
   after_more (b ∷ l) h = refl
 
-module _ (n : ℕ) (s t t' : List ℕ) (r : Chosen) (h : ChosenInto as_numbers s n t (member_at ASNUM space.AsNumbers n s) r t') where
+module _ (n : ℕ) (s t t' : List ℕ) (r : Taken ℕ) (h : ChosenInto as_numbers s n t (member_at ASNUM space.AsNumbers n s) r t') where
   -- [0] is refused
-  pub first_isnt : (f : Refusal) (j : ℕ) → r ≡ chosen.Bad f j → CountedInto identifiers_rows (length s) n t (first_of n s) (counted.Bad f j) t'
+  pub first_isnt : (f : Fault) → r ≡ Err f → CountedInto identifiers_rows (length s) n t (first_of n s) (Err f) t'
   unfolding first_of
-  first_isnt f j u =
-      let d = chosen_bad as_numbers s n t t' r (member_at ASNUM space.AsNumbers n s) h f j u in
-      counted_not identifiers_rows (length s) n t t' (first_of n s) _ j f (ap (after n (length s)) d.was) refl d.inside d.stands
+  first_isnt f u =
+      let d = chosen_bad as_numbers s n t t' r (member_at ASNUM space.AsNumbers n s) h f u in
+      counted_not identifiers_rows (length s) n t t' (first_of n s) _ f (ap (after n (length s)) d.was) refl d.inside d.stands
 
-  module _ (m e : ℕ) (u : r ≡ chosen.Rows m e) where
+  module _ (m e : ℕ) (u : r ≡ Ok (m, e)) where
     -- nothing follows
-    pub first_alone : length s ≤ e → CountedInto identifiers_rows (length s) n t (first_of n s) (counted.Rows m) t'
+    pub first_alone : length s ≤ e → CountedInto identifiers_rows (length s) n t (first_of n s) (Ok m) t'
     unfolding first_of
     first_alone l =
         let (g, i) = chosen_rows as_numbers s n t t' r (member_at ASNUM space.AsNumbers n s) h m e u in
-        counted_is identifiers_rows (length s) n t t' (first_of n s) _ (numbers g.read) (after_none n (length s) g.read (drop e s) (rw length-drop (omega arith)) ∙ ap (after n (length s)) g.was) (ap counted.Rows g.count) g.table g.stands
+        counted_is identifiers_rows (length s) n t t' (first_of n s) _ (numbers g.read) (after_none n (length s) g.read (drop e s) (rw length-drop (omega arith)) ∙ ap (after n (length s)) g.was) (ap Ok g.count) g.table g.stands
 
-    module _ (l : e < length s) (t'' : List ℕ) (z : Counted)
+    module _ (l : e < length s) (t'' : List ℕ) (z : Read ℕ)
         (y : CountedInto (choice_rows routing_domains) (length (take (length s - e) (drop e s))) m t' (last_of m (take (length s - e) (drop e s))) z t'') where
       -- [1] begins there
       here : CountedInto (choice_rows routing_domains) (length (drop e s)) m t' (last_of m (drop e s)) z t''
@@ -157,35 +153,43 @@ module _ (n : ℕ) (s t t' : List ℕ) (r : Chosen) (h : ChosenInto as_numbers s
       first_by c w q = rw (before e s (omega arith), ← q) at (after_more n (length s) c (drop e s) (rw length-drop (omega arith))) ∙ ap (after n (length s)) w
 
       -- its place
-      first_place : (f : Refusal) (j : ℕ) → z ≡ counted.Bad f j → e + j ≤ length s
-      first_place f j v =
-          let d = counted_bad (choice_rows routing_domains) (length (drop e s)) m t' t'' z (last_of m (drop e s)) here f j v in
-          let b : j ≤ length s - e = rw length-drop at d.inside in
+      first_place : (f : Fault) → z ≡ Err f → e + f.place ≤ length s
+      first_place f v =
+          let d = counted_bad (choice_rows routing_domains) (length (drop e s)) m t' t'' z (last_of m (drop e s)) here f v in
+          let b : f.place ≤ length s - e = rw length-drop at d.inside in
           omega arith
 
-      pub first_fits : (f : Refusal) (j : ℕ) → z ≡ counted.Bad f j → length s < 2 ^ 64 → e + j < 2 ^ 64
-      first_fits f j v = lt_of_le_of_lt (first_place f j v)
+      pub first_fits : (f : Fault) → z ≡ Err f → length s < 2 ^ 64 → e + f.place < 2 ^ 64
+      first_fits f v = lt_of_le_of_lt (first_place f v)
 
       -- it is refused
-      pub first_last : (f : Refusal) (j : ℕ) → z ≡ counted.Bad f j → CountedInto identifiers_rows (length s) n t (first_of n s) (counted.Bad f (e + j)) t''
-      first_last f j v =
+      pub first_last : (f : Fault) → z ≡ Err f → CountedInto identifiers_rows (length s) n t (first_of n s) (Err (later e f)) t''
+      first_last f v =
           let (g, i) = chosen_rows as_numbers s n t t' r (member_at ASNUM space.AsNumbers n s) h m e u in
-          let d = counted_bad (choice_rows routing_domains) (length (drop e s)) m t' t'' z (last_of m (drop e s)) here f j v in
-          counted_not identifiers_rows (length s) n t t'' (first_of n s) _ (e + j) f (ap (λ (o : Contents Choice Fault). moved e (taken (both g.read) o)) d.was ∙ first_by g.read g.was g.count) refl (first_place f j v) (stands_on g.stands d.stands)
+          let d = counted_bad (choice_rows routing_domains) (length (drop e s)) m t' t'' z (last_of m (drop e s)) here f v in
+          counted_not identifiers_rows (length s) n t t'' (first_of n s) _ (later e f) (ap (λ (o : Contents Choice Fault). moved e (taken (both g.read) o)) d.was ∙ first_by g.read g.was g.count) refl (first_place f v) (stands_on g.stands d.stands)
 
       -- both are there
-      pub first_both : (k : ℕ) → z ≡ counted.Rows k → CountedInto identifiers_rows (length s) n t (first_of n s) (counted.Rows k) t''
+      pub first_both : (k : ℕ) → z ≡ Ok k → CountedInto identifiers_rows (length s) n t (first_of n s) (Ok k) t''
       first_both k v =
           let (g, i) = chosen_rows as_numbers s n t t' r (member_at ASNUM space.AsNumbers n s) h m e u in
           let d = counted_rows (choice_rows routing_domains) (length (drop e s)) m t' t'' z (last_of m (drop e s)) here k v in
           let c = g.read in
           let b = d.read in
-          counted_is identifiers_rows (length s) n t t'' (first_of n s) _ (both c b) (ap (λ (o : Contents Choice Fault). moved e (taken (both c) o)) d.was ∙ first_by c g.was g.count) (ap counted.Rows (count_on n (choice_rows as_numbers c) (choice_rows routing_domains b) g.count d.count))
+          counted_is identifiers_rows (length s) n t t'' (first_of n s) _ (both c b) (ap (λ (o : Contents Choice Fault). moved e (taken (both c) o)) d.was ∙ first_by c g.was g.count) (ap Ok (count_on n (choice_rows as_numbers c) (choice_rows routing_domains b) g.count d.count))
           (rows_on t n (choice_rows as_numbers c) (choice_rows routing_domains b) g.table g.count d.table) (stands_on g.stands d.stands)
+
+      -- either, as it is handed on
+      pub first_after : CountedInto identifiers_rows (length s) n t (first_of n s) (read_after e z) t''
+      first_after = go z refl
+        where
+          go : (x : Read ℕ) → z ≡ x → CountedInto identifiers_rows (length s) n t (first_of n s) (read_after e x) t''
+          go (Ok k) v = first_both k v
+          go (Err f) v = first_last f v
 
 -- THE MEMBERS
 
-module _ (n : ℕ) (s t t' : List ℕ) (r : Counted) where
+module _ (n : ℕ) (s t t' : List ℕ) (r : Read ℕ) where
   -- [0] is there
   pub members_first : get_or s 0 0 ≡ ASNUM → CountedInto identifiers_rows (length s) n t (first_of n s) r t' → CountedInto identifiers_rows (length s) n t (members_of n s) r t'
   unfolding members_of
@@ -205,11 +209,11 @@ module _ (n : ℕ) (s t t' : List ℕ) (r : Counted) where
 
 module _ (n : ℕ) (v t : List ℕ) (o : Opening) (p : o ≡ opening_of SEQUENCE v) where
   -- there is no SEQUENCE
-  pub ids_bad : (f : Refusal) → o ≡ opening.Bad f → CountedInto identifiers_rows (length v) n t (read_identifiers n v) (counted.Bad f 0) t
+  pub ids_bad : (f : Refusal) → o ≡ Err f → CountedInto identifiers_rows (length v) n t (read_identifiers n v) (Err (at 0 f)) t
   unfolding read_identifiers
   ids_bad f q = value_bad identifiers_rows (some_members n) n v t o p f q
 
-  module _ (k e : ℕ) (q : o ≡ opening.Is k e) where
+  module _ (k e : ℕ) (q : o ≡ Ok (k, e)) where
     -- its contents
     abbrev contents : List ℕ
     contents = take (e - k) (drop k v)
@@ -219,13 +223,13 @@ module _ (n : ℕ) (v t : List ℕ) (o : Opening) (p : o ≡ opening_of SEQUENCE
     contents_size = let i = opens SEQUENCE v k e p q in simp (length-take, length-drop) (omega (arith, i.order, i.inside))
 
     -- there are none
-    pub ids_none : k ≡ e → CountedInto identifiers_rows (length v) n t (read_identifiers n v) (counted.Bad refusal.EmptyList 0) t
+    pub ids_none : k ≡ e → CountedInto identifiers_rows (length v) n t (read_identifiers n v) (Err (at 0 refusal.EmptyList)) t
     unfolding read_identifiers some_members
     ids_none z =
         let l : length contents ≡ 0 = contents_size ∙ omega arith in
         value_none identifiers_rows (some_members n) n v t o p k e q refusal.EmptyList (rw (eq-eqb (length contents) 0 l))
 
-    module _ (z : k ≡ e → ⊥) (t' : List ℕ) (r : Counted) (h : CountedInto identifiers_rows (length contents) n t (members_of n contents) r t') where
+    module _ (z : k ≡ e → ⊥) (t' : List ℕ) (r : Read ℕ) (h : CountedInto identifiers_rows (length contents) n t (members_of n contents) r t') where
       -- there are some
       some : some_members n k contents ≡ moved k (members_of n contents)
       unfolding some_members
@@ -234,20 +238,20 @@ module _ (n : ℕ) (v t : List ℕ) (o : Opening) (p : o ≡ opening_of SEQUENCE
           rw (ne_eqb (length contents) 0 (λ y. z (omega (arith, contents_size, i.order))))
 
       -- a place of them is one of the value
-      pub ids_fits : (f : Refusal) (j : ℕ) → r ≡ counted.Bad f j → length v < 2 ^ 64 → k + j < 2 ^ 64
-      ids_fits f j u = lt_of_le_of_lt (value_place identifiers_rows (some_members n) n v t o p k e q (members_of n contents) some t' r h f j u)
+      pub ids_fits : (f : Fault) → r ≡ Err f → length v < 2 ^ 64 → k + f.place < 2 ^ 64
+      ids_fits f u = lt_of_le_of_lt (value_place identifiers_rows (some_members n) n v t o p k e q (members_of n contents) some t' r h f u)
 
       -- they are refused
-      pub ids_isnt : (f : Refusal) (j : ℕ) → r ≡ counted.Bad f j → CountedInto identifiers_rows (length v) n t (read_identifiers n v) (counted.Bad f (k + j)) t'
+      pub ids_isnt : (f : Fault) → r ≡ Err f → CountedInto identifiers_rows (length v) n t (read_identifiers n v) (Err (later k f)) t'
       unfolding read_identifiers
-      ids_isnt f j u = value_isnt identifiers_rows (some_members n) n v t o p k e q (members_of n contents) some t' r h f j u
+      ids_isnt f u = value_isnt identifiers_rows (some_members n) n v t o p k e q (members_of n contents) some t' r h f u
 
       -- octets are left
-      pub ids_over : (m : ℕ) → r ≡ counted.Rows m → e < length v → CountedInto identifiers_rows (length v) n t (read_identifiers n v) (counted.Bad refusal.OctetsLeft e) t'
+      pub ids_over : (m : ℕ) → r ≡ Ok m → e < length v → CountedInto identifiers_rows (length v) n t (read_identifiers n v) (Err (at e refusal.OctetsLeft)) t'
       unfolding read_identifiers
       ids_over m u l = value_over identifiers_rows (some_members n) n v t o p k e q (members_of n contents) some t' r h m u l
 
       -- none is
-      pub ids_all : (m : ℕ) → r ≡ counted.Rows m → length v ≤ e → CountedInto identifiers_rows (length v) n t (read_identifiers n v) (counted.Rows m) t'
+      pub ids_all : (m : ℕ) → r ≡ Ok m → length v ≤ e → CountedInto identifiers_rows (length v) n t (read_identifiers n v) (Ok m) t'
       unfolding read_identifiers
       ids_all m u l = value_all identifiers_rows (some_members n) n v t o p k e q (members_of n contents) some t' r h m u l

@@ -11,8 +11,8 @@ use Rattle.values.specs.Inside.{BothIn}
 use Rattle.values.specs.Readings.{Left, read_both}
 use Rattle.values.specs.Parted.{has_octets, fault_octets, fault_pointer}
 use Rattle.values.specs.declared.readings.Refused as refused
-use Rattle.values.specs.declared.readings.Reading.{Reading}
-use Rattle.values.specs.declared.readings.Reading.TheVariants as reading
+use Rattle.values.specs.Readings.{Reading}
+use Rattle.std.specs.Prelude.{Ok, Err}
 
 module _ (ip ids t t' : List ℕ) (r : Reading) (e : ◌≡◌ {A = Left} (r, t') (read_both ip ids t)) where
   -- the table is the reading's
@@ -23,7 +23,7 @@ module _ (ip ids t t' : List ℕ) (r : Reading) (e : ◌≡◌ {A = Left} (r, t'
   reply = sym (ap (λ (l : Left). l.0) e)
 
   -- both values were read
-  module _ (n : ℕ) (d : r ≡ reading.Rows n) where
+  module _ (n : ℕ) (d : r ≡ Ok n) where
     pub rows_octets : [] ≡ fault_octets ip ids t
     unfolding fault_octets
     rows_octets = rw (reply, d)
@@ -32,7 +32,7 @@ module _ (ip ids t t' : List ℕ) (r : Reading) (e : ◌≡◌ {A = Left} (r, t'
     unfolding fault_pointer
     rows_pointer p q = rw (reply, d)
 
-  module _ (f : refused.Refused) (d : r ≡ reading.Refused f) (b : Bool) (h : b ≡ has_octets f.refusal) where
+  module _ (f : refused.Refused) (d : r ≡ Err f) (b : Bool) (h : b ≡ has_octets f.refusal) where
     -- a refusal without octets
     pub none_octets : b ≡ false → [] ≡ fault_octets ip ids t
     unfolding fault_octets
@@ -63,7 +63,7 @@ module _ (ip ids t t' : List ℕ) (r : Reading) (e : ◌≡◌ {A = Left} (r, t'
       as_pointer p q = rw (reply, d, ← h, k, ne_eqb f.extension ip_extension g)
 
 -- the place
-module _ (m n : ℕ) (r : Reading) (f : refused.Refused) (i : BothIn m n r) (d : r ≡ reading.Refused f) where
+module _ (m n : ℕ) (r : Reading) (f : refused.Refused) (i : BothIn m n r) (d : r ≡ Err f) where
   pub ip_place : f.extension ≡ ip_extension → f.place ≤ m
   ip_place g = (rw d at i).0 g
 

@@ -19,15 +19,13 @@ use Rattle.der.specs.Tags.{OCTET_STRING}
 use Rattle.der.specs.Strings.{is_sized}
 use Rattle.der.specs.Opening.{opening_of}
 use Rattle.der.specs.Parts.{is, isnt, part}
-use Rattle.der.specs.declared.heads.Opening.{Opening}
-use Rattle.der.specs.declared.heads.Opening.TheVariants as opening
 use Rattle.der.proofs.laws.Parts.{no_is}
 use Rattle.values.specs.Faults.{at}
 use Rattle.values.specs.Blocks.{afi, space_of, not_below, space_at}
 use Rattle.values.specs.Seen.{Reached, space_of_seen}
-use Rattle.values.specs.declared.blocks.SpaceOf.{SpaceOf}
-use Rattle.values.specs.declared.blocks.SpaceOf.TheVariants as spaceof
 use Rattle.values.proofs.Joins.{Refused, tag_refused, tag_isnt, tag_took, sift_refused, sift_isnt, sift_took}
+use Rattle.der.specs.Opening.{Opening}
+use Rattle.std.specs.Prelude.{Result, Ok, Err}
 
 -- THE CONTENTS
 
@@ -79,19 +77,19 @@ space_bound c x b e =
 
 module _ (least : ℕ) (s : List ℕ) (o : Opening) (p : o ≡ opening_of OCTET_STRING s) where
   -- there is none
-  pub opening_refused : (r : Refusal) → o ≡ opening.Bad r → Refused (space_at least s) (length s) r 0
+  pub opening_refused : (r : Refusal) → o ≡ Err r → Refused (space_at least s) (length s) (at 0 r)
   unfolding space_at
-  opening_refused r q = sift_refused (not_below least) _ (length s) r 0 (tag_refused OCTET_STRING s p (λ k. space_of) r q)
+  opening_refused r q = sift_refused (not_below least) _ (length s) (at 0 r) (tag_refused OCTET_STRING s p (λ k. space_of) r q)
 
-  module _ (k e : ℕ) (q : o ≡ opening.Is k e) (r : SpaceOf) where
+  module _ (k e : ℕ) (q : o ≡ Ok (k, e)) (r : Result ℕ Refusal) where
     -- its contents are no space
-    pub contents_refused : (z : Refusal) → r ≡ spaceof.Bad z → space_of_seen r ≡ space_of (take (e - k) (drop k s)) → Refused (space_at least s) (length s) z 0
+    pub contents_refused : (z : Refusal) → r ≡ Err z → space_of_seen r ≡ space_of (take (e - k) (drop k s)) → Refused (space_at least s) (length s) (at 0 z)
     unfolding space_at
-    contents_refused z u h = sift_refused (not_below least) _ (length s) z 0 (tag_isnt OCTET_STRING s p k e q (λ k. space_of) z 0 (sym h ∙ rw u) (omega arith))
+    contents_refused z u h = sift_refused (not_below least) _ (length s) (at 0 z) (tag_isnt OCTET_STRING s p k e q (λ k. space_of) (at 0 z) (sym h ∙ rw u) (omega arith))
 
-    module _ (x : ℕ) (u : r ≡ spaceof.Is x) (h : space_of_seen r ≡ space_of (take (e - k) (drop k s))) where
+    module _ (x : ℕ) (u : r ≡ Ok x) (h : space_of_seen r ≡ space_of (take (e - k) (drop k s))) where
       -- it is not above the one before
-      pub order_refused : x < least → Refused (space_at least s) (length s) refusal.FamilyOrder 0
+      pub order_refused : x < least → Refused (space_at least s) (length s) (at 0 refusal.FamilyOrder)
       unfolding space_at
       order_refused l = sift_isnt (not_below least) _ s x e (tag_took OCTET_STRING s p k e q (λ k. space_of) x (sym h ∙ rw u)) refusal.FamilyOrder (rw (lt-ltb x least l))
 

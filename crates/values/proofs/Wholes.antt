@@ -9,7 +9,7 @@ use lib.ListN.{length, drop, length-drop}
 use lib.Seq.{drop-drop}
 use Rattle.number.specs.declared.refusal.Refusal.TheVariants as refusal
 use Rattle.der.specs.Parts.{is, isnt, Part, part, nopart, two, ended, only}
-use Rattle.values.specs.Faults.{Fault, at, moved_part}
+use Rattle.values.specs.Faults.{Fault, at, later, moved_part}
 
 -- what is left where there is something, and where there is nothing
 module _ {X E : Type 0} (over : ℕ → E) (n : ℕ) (x : X) where
@@ -58,7 +58,7 @@ module _ {X Y : Type 0} (dec : List ℕ → Part X Fault) (next : X → List ℕ
 
   module _ (x : X) (k : ℕ) (p : part x (drop k s) ≡ dec s) (l : k ≤ length s) where
     -- the second is refused
-    pub two_second : (f : Fault) → nopart f ≡ next x (drop k s) → nopart (at (k + f.1) f.0) ≡ paired dec next s
+    pub two_second : (f : Fault) → nopart f ≡ next x (drop k s) → nopart (later k f) ≡ paired dec next s
     unfolding two
     two_second f q = rw (← p, before k s l, ← q) refl
 

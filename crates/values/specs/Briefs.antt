@@ -1,5 +1,5 @@
 -- A brief element: one of few octets, read as one number. What the code says of it holds whatever follows the octets that it took.
-use Rattle.std.specs.Prelude.{ℕ, ◌+◌, ◌-◌, ◌*◌, ◌/◌, ◌%◌, ◌^◌, ◌≤◌, ◌<◌, ◌≡◌, List, Bool, false, length, get_or, take, drop, ltb, leb, eqb}
+use Rattle.std.specs.Prelude.{Option, Some, None, ℕ, ◌+◌, ◌-◌, ◌*◌, ◌/◌, ◌%◌, ◌^◌, ◌≤◌, ◌<◌, ◌≡◌, List, Bool, false, length, get_or, take, drop, ltb, leb, eqb}
 use Rattle.number.specs.Tests.{pick}
 use Rattle.number.specs.Halves.{whole}
 use Rattle.der.specs.Tags.{INTEGER, BIT_STRING}
@@ -8,9 +8,9 @@ use Rattle.der.specs.Bits.{bits_of}
 use Rattle.der.specs.Integer.{integer_octets}
 use Rattle.der.specs.Parts.{part}
 use Rattle.values.specs.Addresses.{address_at}
+use Rattle.values.specs.Ids.{pair_at}
 use Rattle.values.specs.declared.brief_addresses.Brief as b
-use Rattle.values.specs.declared.brief_addresses.BriefRow as r
-use Rattle.values.specs.declared.ids.Brief as n
+use Rattle.values.specs.declared.brief_addresses.Span as r
 
 -- a tag, a length from least to most in one octet, and eight octets after the first of the contents
 unfoldable pub is_brief : ℕ → ℕ → ℕ → List ℕ → Bool
@@ -42,13 +42,14 @@ abbrev pub filled_bits : ℕ → ℕ → ℕ
 filled_bits count bits = bits + (2 ^ (64 - count) - 1)
 
 -- a BIT STRING of so many bits that begin an address of w bits
-abbrev pub BitsTaken : ℕ → List ℕ → b.Brief → Type 0
-BitsTaken w s b =
-    (b.count ≤ w) × (placed_bits w b.bits < 2 ^ w) × (placed_bits w b.bits % 2 ^ (w - b.count) ≡ 0) × Starts s b.taken (element BIT_STRING (bits_of w b.count (placed_bits w b.bits))) × Leading b.count b.bits
+abbrev pub BitsTaken : ℕ → List ℕ → b.Brief → ℕ → Type 0
+BitsTaken w s b taken =
+    (b.count ≤ w) × (placed_bits w b.bits < 2 ^ w) × (placed_bits w b.bits % 2 ^ (w - b.count) ≡ 0) × Starts s taken (element BIT_STRING (bits_of w b.count (placed_bits w b.bits))) × Leading b.count b.bits
 
--- such a one, or nothing was taken; either way its bits fit
-abbrev pub BriefBits : ℕ → List ℕ → b.Brief → Type 0
-BriefBits w s b = Within w b.bits × (0 < b.taken → BitsTaken w s b)
+-- such a one, whose bits fit; or nothing was taken
+abbrev pub BriefBits : ℕ → List ℕ → Option (b.Brief × ℕ) → Type 0
+BriefBits w s (Some (b, taken)) = Within w b.bits × (0 < taken) × BitsTaken w s b taken
+BriefBits w s None = Unit {0}
 
 -- min and max as the first n and m of 64 bits: nothing more can be removed from either, and the addresses are not as many as a prefix has
 pub record IsRange (n min m max : ℕ) : Type 0 where
@@ -59,9 +60,16 @@ pub record IsRange (n min m max : ℕ) : Type 0 where
   pub unlike : (k : ℕ) → filled_bits m max - min + 1 ≡ 2 ^ k → ⊥
 
 -- an element of an address family of w bits by its low and high, or nothing was taken
-abbrev pub BriefSpan : ℕ → List ℕ → r.BriefRow → Type 0
-BriefSpan w s r = 0 < r.taken → (part (whole r.low, whole r.high) (drop r.taken s) ≡ address_at w s) × (r.taken ≤ length s)
+abbrev pub BriefSpan : ℕ → List ℕ → Option (r.Span × ℕ) → Type 0
+BriefSpan w s (Some (r, taken)) = (0 < taken) × (part (whole r.low, whole r.high) (drop taken s) ≡ address_at w s) × (taken ≤ length s)
+BriefSpan w s None = Unit {0}
 
 -- an INTEGER of 32 bits, or nothing was taken
-abbrev pub BriefNumber : List ℕ → n.Brief → Type 0
-BriefNumber s b = 0 < b.taken → (b.number ≤ 4294967295) × Starts s b.taken (element INTEGER (integer_octets b.number))
+abbrev pub BriefNumber : List ℕ → Option (ℕ × ℕ) → Type 0
+BriefNumber s (Some (x, taken)) = (0 < taken) × (x ≤ 4294967295) × Starts s taken (element INTEGER (integer_octets x))
+BriefNumber s None = Unit {0}
+
+-- a range of two such, or nothing was taken
+abbrev pub BriefPair : List ℕ → Option ((ℕ × ℕ) × ℕ) → Type 0
+BriefPair s (Some (p, taken)) = (0 < taken) × (part p (drop taken s) ≡ pair_at s) × (taken ≤ length s)
+BriefPair s None = Unit {0}

@@ -1,21 +1,17 @@
 -- ASIdOrRange: "at least one INTEGER or range (min, max)". AS numbers and routing domain identifiers have one syntax; their types and spaces are their own.
-use Rattle.std.specs.Prelude.{ℕ, List, get_or, ltb, eqb}
+use Rattle.std.specs.Prelude.{Result, Ok, Err, ℕ, List, get_or, ltb, eqb}
 use Rattle.number.specs.Tests.{pick}
 use Rattle.number.specs.declared.refusal.Refusal.TheVariants as refusal
 use Rattle.der.specs.Tags.{INTEGER, SEQUENCE}
 use Rattle.der.specs.Integer.{integer_of}
-use Rattle.der.specs.declared.integers.Integer as code
-use Rattle.der.specs.declared.integers.Integer.TheVariants as integer
+use Rattle.der.specs.declared.integers.BadInteger.{BadInteger}
 use Rattle.der.specs.Parts.{Contents, is, isnt, Part, tagged, two, only, sifted}
 use Rattle.values.specs.Faults.{Fault, at, moved, moved_part}
 
 -- whatever the cause, an INTEGER that is none is refusal 4
-abbrev pub integer_contents : code.Integer → Contents ℕ Fault
-integer_contents (integer.Is x) = is x
-integer_contents integer.Empty = isnt (at 0 refusal.Contents)
-integer_contents integer.Negative = isnt (at 0 refusal.Contents)
-integer_contents integer.Padded = isnt (at 0 refusal.Contents)
-integer_contents integer.TooLarge = isnt (at 0 refusal.Contents)
+abbrev pub integer_contents : Result ℕ BadInteger → Contents ℕ Fault
+integer_contents (Ok x) = is x
+integer_contents (Err cause) = isnt (at 0 refusal.Contents)
 
 unfoldable pub integer_at : List ℕ → Part ℕ Fault
 integer_at = tagged (at 0) INTEGER (λ k c. integer_contents (integer_of c))

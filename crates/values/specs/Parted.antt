@@ -5,8 +5,8 @@ use Rattle.number.specs.declared.refusal.Refusal.{Refusal}
 use Rattle.number.specs.Refusal.{number_of}
 use Rattle.values.specs.Limits.{ip_extension}
 use Rattle.values.specs.Readings.{read_both}
-use Rattle.values.specs.declared.readings.Reading.{Reading}
-use Rattle.values.specs.declared.readings.Reading.TheVariants as reading
+use Rattle.values.specs.Readings.{Reading}
+use Rattle.std.specs.Prelude.{Ok, Err}
 
 -- "the refusal is 11, 16 or 1": it has no octets at fault
 unfoldable pub has_octets : Refusal → Bool
@@ -14,8 +14,8 @@ has_octets r = pick (eqb (number_of r) 11) false (pick (eqb (number_of r) 16) fa
 
 -- what is chosen of the start of the IP value, the IP value and the AS value from a place on
 abbrev pub chosen : {A : Type 0} → Reading → A → (ℕ → A) → (ℕ → A) → A
-chosen (reading.Rows n) none ip ids = none
-chosen (reading.Refused f) none ip ids = pick (has_octets f.refusal) (pick (eqb f.extension ip_extension) (ip f.place) (ids f.place)) none
+chosen (Ok n) none ip ids = none
+chosen (Err f) none ip ids = pick (has_octets f.refusal) (pick (eqb f.extension ip_extension) (ip f.place) (ids f.place)) none
 
 -- the octets
 unfoldable pub fault_octets : List ℕ → List ℕ → List ℕ → List ℕ

@@ -10,11 +10,13 @@ use Rattle.der.specs.Parts.{Contents, is, isnt}
 use Rattle.values.specs.Limits.{ip_extension, as_extension, max_octets}
 use Rattle.values.specs.Faults.{Fault, at}
 use Rattle.values.specs.Tables.{ip_rows, as_rows}
-use Rattle.values.specs.declared.elements.Counted.{Counted}
-use Rattle.values.specs.declared.elements.Counted.TheVariants as counted
 use Rattle.values.specs.declared.readings.Refused.{Refused}
-use Rattle.values.specs.declared.readings.Reading.{Reading}
-use Rattle.values.specs.declared.readings.Reading.TheVariants as reading
+use Rattle.values.specs.Faults.{Read}
+use Rattle.std.specs.Prelude.{Result, Ok, Err}
+
+-- the rows that the table has now, or a refusal
+abbrev pub Reading : Type 0
+Reading = Result ℕ Refused
 
 -- a reply, and the table that is left
 abbrev pub Left : Type 0
@@ -26,7 +28,7 @@ naming r certificate extension place = record { refusal = r; certificate = certi
 
 -- "the reader and the writer alone name certificate 0"
 abbrev pub refused_at : Refusal → ℕ → ℕ → Reading
-refused_at r extension place = reading.Refused (naming r 0 extension place)
+refused_at r extension place = Err (naming r 0 extension place)
 
 -- "a lent table too short": "Numbers 12 and 16 to 20 name certificate 0 and extension 0"
 abbrev pub short : List ℕ → Left
@@ -34,16 +36,16 @@ short t = (refused_at refusal.TableShort 0 0, t)
 
 -- a refusal leaves zeros
 abbrev pub refused_with : ℕ → Fault → List ℕ → Left
-refused_with extension f t = (refused_at f.0 extension f.1, cleared table_numbers t)
+refused_with extension f t = (refused_at f.refusal extension f.place, cleared table_numbers t)
 
 -- what the code's readers have counted
-abbrev pub answered : ℕ → Counted → List ℕ → Left
-answered extension (counted.Rows n) t = (reading.Rows n, t)
-answered extension (counted.Bad r p) t = refused_with extension (at p r) t
+abbrev pub answered : ℕ → (Read ℕ) → List ℕ → Left
+answered extension (Ok n) t = (Ok n, t)
+answered extension (Err f) t = refused_with extension f t
 
 -- rows from row n on
 abbrev pub settled : ℕ → ℕ → Contents (List Row) Fault → List ℕ → Left
-settled extension n (is rows) t = (reading.Rows (n + length rows), with_rows t n rows)
+settled extension n (is rows) t = (Ok (n + length rows), with_rows t n rows)
 settled extension n (isnt f) t = refused_with extension f t
 
 -- a value as a step of a path: its rows are counted on from n
@@ -75,14 +77,14 @@ read_as v t = alone as_extension v (step_as v 0) t
 
 -- one certificate's two values: "IP rows, then AS rows"; "An empty value here is absent."
 abbrev pub on_as : List ℕ → List ℕ → Reading → Left
-on_as v t (reading.Rows n) = pick (eqb (length v) 0) (reading.Rows n, t) (step_as v n t)
-on_as v t (reading.Refused f) = (reading.Refused f, t)
+on_as v t (Ok n) = pick (eqb (length v) 0) (Ok n, t) (step_as v n t)
+on_as v t (Err f) = (Err f, t)
 
 abbrev pub then_as : List ℕ → Left → Left
 then_as v l = on_as v l.1 l.0
 
 unfoldable pub step_both : List ℕ → List ℕ → List ℕ → Left
-step_both ip ids t = then_as ids (pick (eqb (length ip) 0) (reading.Rows 0, t) (step_ip ip t))
+step_both ip ids t = then_as ids (pick (eqb (length ip) 0) (Ok 0, t) (step_ip ip t))
 
 unfoldable pub read_both : List ℕ → List ℕ → List ℕ → Left
 read_both ip ids t = pick (ltb (length t) table_numbers) (short t) (step_both ip ids (cleared table_numbers t))

@@ -1,114 +1,100 @@
 -- The answers of the code, in the words of the definitions (`..Seen`): a part's rest is what follows the octets that it took. Its end, or the place of its refusal, is within the octets given (`..In`).
-use Rattle.std.specs.Prelude.{ℕ, ◌^◌, ◌≤◌, ◌<◌, ◌≡◌, List, drop, ltb}
+use Rattle.std.specs.Prelude.{Result, Ok, Err, Option, Some, None, ℕ, ◌^◌, ◌≤◌, ◌<◌, ◌≡◌, List, drop, ltb}
 use Rattle.number.specs.Tests.{pick}
 use Rattle.number.specs.Halves.{whole}
+use Rattle.number.specs.declared.halves.Halves as number
+use Rattle.number.specs.declared.refusal.Refusal.{Refusal}
 use Rattle.der.specs.Parts.{Contents, is, isnt, Part, part, nopart}
 use Rattle.table.specs.Rows.{in_halves}
-use Rattle.values.specs.Faults.{Fault, at}
+use Rattle.table.specs.declared.rows.Row as code
+use Rattle.values.specs.Faults.{Fault, at, Read, Taken}
 use Rattle.values.specs.Forms.{Span, span, none}
 use Rattle.values.specs.Choices.{listed_row}
-use Rattle.values.specs.declared.addresses.Found as f
-use Rattle.values.specs.declared.addresses.Found.TheVariants as found
-use Rattle.values.specs.declared.addresses.BitsAt as b
-use Rattle.values.specs.declared.addresses.BitsAt.TheVariants as bits_at
-use Rattle.values.specs.declared.addresses.Bounds as d
-use Rattle.values.specs.declared.addresses.Bounds.TheVariants as bounds
-use Rattle.values.specs.declared.addresses.BoundsAt as c
-use Rattle.values.specs.declared.addresses.BoundsAt.TheVariants as bounds_at
-use Rattle.values.specs.declared.addresses.Ranged as g
-use Rattle.values.specs.declared.addresses.Ranged.TheVariants as ranged
-use Rattle.values.specs.declared.ids.Listed as l
-use Rattle.values.specs.declared.ids.Listed.TheVariants as listed
-use Rattle.values.specs.declared.ids.IntegerAt as i
-use Rattle.values.specs.declared.ids.IntegerAt.TheVariants as integer_at
-use Rattle.values.specs.declared.ids.Pair as p
-use Rattle.values.specs.declared.ids.Pair.TheVariants as pair
-use Rattle.values.specs.declared.ids.PairAt as q
-use Rattle.values.specs.declared.ids.PairAt.TheVariants as pair_at
-use Rattle.values.specs.declared.blocks.SpaceOf as o
-use Rattle.values.specs.declared.blocks.SpaceOf.TheVariants as space_of
-use Rattle.values.specs.declared.blocks.SpaceAt as a
-use Rattle.values.specs.declared.blocks.SpaceAt.TheVariants as space_at
+use Rattle.values.specs.declared.addresses.Start as begun
+
+-- so many bits, and the address that they begin
+abbrev pub start : ℕ → number.Halves → begun.Start
+start n x = record { bits = n; address = x }
 
 -- the end of an element, within n octets
 abbrev pub Reached : ℕ → ℕ → Type 0
 Reached n end = (0 < end) × (end ≤ n)
 
-abbrev pub bits_seen : List ℕ → b.BitsAt → Part (ℕ × ℕ) Fault
-bits_seen s (bits_at.Is n x end) = part (n, whole x) (drop end s)
-bits_seen s (bits_at.Bad r q) = nopart (at q r)
+abbrev pub bits_seen : List ℕ → Taken begun.Start → Part (ℕ × ℕ) Fault
+bits_seen s (Ok (b, end)) = part (b.bits, whole b.address) (drop end s)
+bits_seen s (Err f) = nopart f
 
 -- and the address has w bits
-abbrev pub BitsIn : ℕ → ℕ → b.BitsAt → Type 0
-BitsIn w m (bits_at.Is n x end) = (whole x < 2 ^ w) × Reached m end
-BitsIn w m (bits_at.Bad r q) = q ≤ m
+abbrev pub BitsIn : ℕ → ℕ → Taken begun.Start → Type 0
+BitsIn w m (Ok (b, end)) = (whole b.address < 2 ^ w) × Reached m end
+BitsIn w m (Err f) = f.place ≤ m
 
-abbrev pub bounds_seen : d.Bounds → Contents ((ℕ × ℕ) × (ℕ × ℕ)) Fault
-bounds_seen (bounds.Is n x m y) = is ((n, whole x), (m, whole y))
-bounds_seen (bounds.Bad r q) = isnt (at q r)
+abbrev pub bounds_seen : Read (begun.Start × begun.Start) → Contents ((ℕ × ℕ) × (ℕ × ℕ)) Fault
+bounds_seen (Ok (b, c)) = is ((b.bits, whole b.address), (c.bits, whole c.address))
+bounds_seen (Err f) = isnt f
 
-abbrev pub BoundsIn : ℕ → ℕ → d.Bounds → Type 0
-BoundsIn w k (bounds.Is n x m y) = (whole x < 2 ^ w) × (whole y < 2 ^ w)
-BoundsIn w k (bounds.Bad r q) = q ≤ k
+abbrev pub BoundsIn : ℕ → ℕ → Read (begun.Start × begun.Start) → Type 0
+BoundsIn w k (Ok (b, c)) = (whole b.address < 2 ^ w) × (whole c.address < 2 ^ w)
+BoundsIn w k (Err f) = f.place ≤ k
 
-abbrev pub bounds_at_seen : List ℕ → c.BoundsAt → Part ((ℕ × ℕ) × (ℕ × ℕ)) Fault
-bounds_at_seen s (bounds_at.Is n x m y end) = part ((n, whole x), (m, whole y)) (drop end s)
-bounds_at_seen s (bounds_at.Bad r q) = nopart (at q r)
+abbrev pub bounds_at_seen : List ℕ → Taken (begun.Start × begun.Start) → Part ((ℕ × ℕ) × (ℕ × ℕ)) Fault
+bounds_at_seen s (Ok ((b, c), end)) = part ((b.bits, whole b.address), (c.bits, whole c.address)) (drop end s)
+bounds_at_seen s (Err f) = nopart f
 
-abbrev pub BoundsAtIn : ℕ → ℕ → c.BoundsAt → Type 0
-BoundsAtIn w k (bounds_at.Is n x m y end) = (whole x < 2 ^ w) × (whole y < 2 ^ w) × Reached k end
-BoundsAtIn w k (bounds_at.Bad r q) = q ≤ k
+abbrev pub BoundsAtIn : ℕ → ℕ → Taken (begun.Start × begun.Start) → Type 0
+BoundsAtIn w k (Ok ((b, c), end)) = (whole b.address < 2 ^ w) × (whole c.address < 2 ^ w) × Reached k end
+BoundsAtIn w k (Err f) = f.place ≤ k
 
 -- the row of a range in the space a
-abbrev pub ranged_seen : ℕ → Span → g.Ranged
-ranged_seen a (span low high) = ranged.Is (in_halves (listed_row a (low, high)))
-ranged_seen a none = ranged.No
+abbrev pub ranged_seen : ℕ → Span → Option code.Row
+ranged_seen a (span low high) = Some (in_halves (listed_row a (low, high)))
+ranged_seen a none = None
 
-abbrev pub found_seen : List ℕ → f.Found → Part (ℕ × ℕ) Fault
-found_seen s (found.Is row end) = part (whole row.low, whole row.high) (drop end s)
-found_seen s (found.Bad r q) = nopart (at q r)
+abbrev pub found_seen : List ℕ → Taken code.Row → Part (ℕ × ℕ) Fault
+found_seen s (Ok (row, end)) = part (whole row.low, whole row.high) (drop end s)
+found_seen s (Err f) = nopart f
 
 -- and the row lists numbers of the space a
-abbrev pub FoundIn : ℕ → ℕ → f.Found → Type 0
-FoundIn a m (found.Is row end) = (row.space ≡ a) × (row.inherit ≡ 0) × Reached m end
-FoundIn a m (found.Bad r q) = q ≤ m
+abbrev pub FoundIn : ℕ → ℕ → Taken code.Row → Type 0
+FoundIn a m (Ok (row, end)) = (row.space ≡ a) × (row.inherit ≡ 0) × Reached m end
+FoundIn a m (Err f) = f.place ≤ m
 
-abbrev pub integer_seen : List ℕ → i.IntegerAt → Part ℕ Fault
-integer_seen s (integer_at.Is x end) = part x (drop end s)
-integer_seen s (integer_at.Bad r q) = nopart (at q r)
+abbrev pub integer_seen : List ℕ → Taken ℕ → Part ℕ Fault
+integer_seen s (Ok (x, end)) = part x (drop end s)
+integer_seen s (Err f) = nopart f
 
-abbrev pub IntegerIn : ℕ → i.IntegerAt → Type 0
-IntegerIn m (integer_at.Is x end) = Reached m end
-IntegerIn m (integer_at.Bad r q) = q ≤ m
+abbrev pub IntegerIn : ℕ → Taken ℕ → Type 0
+IntegerIn m (Ok (x, end)) = Reached m end
+IntegerIn m (Err f) = f.place ≤ m
 
-abbrev pub pair_seen : p.Pair → Contents (ℕ × ℕ) Fault
-pair_seen (pair.Is x y) = is (x, y)
-pair_seen (pair.Bad r q) = isnt (at q r)
+abbrev pub pair_seen : Read (ℕ × ℕ) → Contents (ℕ × ℕ) Fault
+pair_seen (Ok p) = is p
+pair_seen (Err f) = isnt f
 
-abbrev pub PairIn : ℕ → p.Pair → Type 0
-PairIn m (pair.Is x y) = Unit {0}
-PairIn m (pair.Bad r q) = q ≤ m
+abbrev pub PairIn : ℕ → Read (ℕ × ℕ) → Type 0
+PairIn m (Ok p) = Unit {0}
+PairIn m (Err f) = f.place ≤ m
 
-abbrev pub pair_at_seen : List ℕ → q.PairAt → Part (ℕ × ℕ) Fault
-pair_at_seen s (pair_at.Is x y end) = part (x, y) (drop end s)
-pair_at_seen s (pair_at.Bad r k) = nopart (at k r)
+abbrev pub pair_at_seen : List ℕ → Taken (ℕ × ℕ) → Part (ℕ × ℕ) Fault
+pair_at_seen s (Ok (p, end)) = part p (drop end s)
+pair_at_seen s (Err f) = nopart f
 
-abbrev pub PairAtIn : ℕ → q.PairAt → Type 0
-PairAtIn m (pair_at.Is x y end) = Reached m end
-PairAtIn m (pair_at.Bad r k) = k ≤ m
+abbrev pub PairAtIn : ℕ → Taken (ℕ × ℕ) → Type 0
+PairAtIn m (Ok (p, end)) = Reached m end
+PairAtIn m (Err f) = f.place ≤ m
 
 -- the row of a range of identifiers in the space a
-abbrev pub range_seen : ℕ → ℕ → ℕ → l.Listed
-range_seen a x y = pick (ltb x y) (listed.Is (in_halves (listed_row a (x, y)))) listed.No
+abbrev pub range_seen : ℕ → ℕ → ℕ → Option code.Row
+range_seen a x y = pick (ltb x y) (Some (in_halves (listed_row a (x, y)))) None
 
-abbrev pub space_of_seen : o.SpaceOf → Contents ℕ Fault
-space_of_seen (space_of.Is x) = is x
-space_of_seen (space_of.Bad r) = isnt (at 0 r)
+abbrev pub space_of_seen : Result ℕ Refusal → Contents ℕ Fault
+space_of_seen (Ok x) = is x
+space_of_seen (Err r) = isnt (at 0 r)
 
-abbrev pub space_seen : List ℕ → a.SpaceAt → Part ℕ Fault
-space_seen s (space_at.Is x end) = part x (drop end s)
-space_seen s (space_at.Bad r q) = nopart (at q r)
+abbrev pub space_seen : List ℕ → Taken ℕ → Part ℕ Fault
+space_seen s (Ok (x, end)) = part x (drop end s)
+space_seen s (Err f) = nopart f
 
-abbrev pub SpaceIn : ℕ → a.SpaceAt → Type 0
-SpaceIn m (space_at.Is x end) = (x ≤ 4095) × Reached m end
-SpaceIn m (space_at.Bad r q) = q ≤ m
+abbrev pub SpaceIn : ℕ → Taken ℕ → Type 0
+SpaceIn m (Ok (x, end)) = (x ≤ 4095) × Reached m end
+SpaceIn m (Err f) = f.place ≤ m

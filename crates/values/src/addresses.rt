@@ -11,7 +11,7 @@ ghost use Rattle.values.specs.Choices.{listed_row};
 ghost use Rattle.values.specs.Seen.{bits_seen, BitsIn, bounds_seen, BoundsIn, bounds_at_seen, BoundsAtIn, ranged_seen, found_seen, FoundIn};
 
 use crate::brief_addresses;
-use der::heads::Opening;
+use crate::faults::{Fault, Read, Taken, after};
 use der::{bits, heads, tags};
 use number::halves::{Halves, Width};
 use number::refusal::Refusal;
@@ -19,188 +19,135 @@ use number::{address, halves, kept, shape};
 use table::rows::Row;
 use table::spaces;
 
-// An element that was read: its row and how many octets it took; or a refusal and its place.
+// What a BIT STRING says: how many bits, and the address that they begin, zeros after them.
 #[derive(Clone, Copy)]
-pub enum Found {
-    Is(Row, usize),
-    Bad(Refusal, usize),
-}
-
-// A BIT STRING that was read: how many bits, the address that they begin, and how many octets it took; or a refusal and its place.
-#[derive(Clone, Copy)]
-pub enum BitsAt {
-    Is(u32, Halves, usize),
-    Bad(Refusal, usize),
+pub struct Start {
+    pub bits: u32,
+    pub address: Halves,
 }
 
 // The BIT STRING that s begins with, by its head and its contents.
-fn bits_at(width: Width, s: &[u8]) -> BitsAt
+fn bits_at(width: Width, s: &[u8]) -> Taken<Start>
     ensures seen { bits_seen s.now result ≡ spec.bits_at (bits_of width) s.now }
     ensures inside { BitsIn (bits_of width) (length s.now) result }
 {
-    match heads::open(tags::BIT_STRING, s) {
-        Opening::Bad(refusal) => BitsAt::Bad(refusal, 0),
-        Opening::Is(k, end) => {
-            let string = bits::read(width, &s[k..end]);
-            if string.read {
-                return BitsAt::Is(string.count, address::to_halves(string.address), end);
-            }
-            BitsAt::Bad(Refusal::Contents, 0)
-        }
-    }
+    let (k, end) = heads::open(tags::BIT_STRING, s)?;
+    let string = bits::read(width, &s[k..end]).ok_or(Refusal::Contents)?;
+    let start = Start {
+        bits: string.count,
+        address: address::to_halves(string.address),
+    };
+    Ok((start, end))
 }
 
 // The addresses that begin with the bits: zeros after them at the low end, ones at the high end.
-fn prefix_row(space: u64, count: u32, low: Halves) -> Row
-    ensures { result ≡ in_halves (listed_row space (whole low, one_filled (bits_of (width_of space)) count (whole low))) }
+fn prefix_row(space: u64, prefix: Start) -> Row
+    ensures { result ≡ in_halves (listed_row space (whole prefix.address, one_filled (bits_of (width_of space)) prefix.bits (whole prefix.address))) }
 {
-    let high = kept::one_filled(spaces::width(space), count, low);
     Row {
-        space: space,
+        space,
         inherit: 0,
-        low: low,
-        high: high,
+        low: prefix.address,
+        high: kept::one_filled(spaces::width(space), prefix.bits, prefix.address),
     }
 }
 
 // The row of the prefix that s begins with.
-fn prefix_at(space: u64, s: &[u8]) -> Found
+fn prefix_at(space: u64, s: &[u8]) -> Taken<Row>
     ensures seen { found_seen s.now result ≡ spec.prefix_at (bits_of (width_of space)) s.now }
     ensures inside { FoundIn space (length s.now) result }
 {
-    match bits_at(spaces::width(space), s) {
-        BitsAt::Bad(refusal, at) => Found::Bad(refusal, at),
-        BitsAt::Is(count, low, end) => Found::Is(prefix_row(space, count, low), end),
-    }
-}
-
-// Min and max of a range: how many bits, and the address that they begin; or a refusal and its place.
-#[derive(Clone, Copy)]
-pub enum Bounds {
-    Is(u32, Halves, u32, Halves),
-    Bad(Refusal, usize),
+    let (prefix, end) = bits_at(spaces::width(space), s)?;
+    Ok((prefix_row(space, prefix), end))
 }
 
 // The contents of a range: min, then max, then nothing.
-fn bounds_of(width: Width, s: &[u8]) -> Bounds
+fn bounds_of(width: Width, s: &[u8]) -> Read<(Start, Start)>
     ensures seen { bounds_seen result ≡ spec.bounds_of (bits_of width) s.now }
     ensures inside { BoundsIn (bits_of width) (length s.now) result }
 {
-    match bits_at(width, s) {
-        BitsAt::Bad(refusal, at) => Bounds::Bad(refusal, at),
-        BitsAt::Is(n, min, k) => {
-            let rest = &s[k..];
-            match bits_at(width, rest) {
-                BitsAt::Bad(refusal, at) => Bounds::Bad(refusal, k + at),
-                BitsAt::Is(m, max, j) => {
-                    if j < rest.len() {
-                        return Bounds::Bad(Refusal::OctetsLeft, k + j);
-                    }
-                    Bounds::Is(n, min, m, max)
-                }
-            }
-        }
+    let (min, k) = bits_at(width, s)?;
+    let rest = &s[k..];
+    let (max, j) = after(k, bits_at(width, rest))?;
+    if j < rest.len() {
+        return Err(Fault::at(k + j, Refusal::OctetsLeft));
     }
-}
-
-// Min and max of a range, and how many octets it took; or a refusal and its place.
-#[derive(Clone, Copy)]
-pub enum BoundsAt {
-    Is(u32, Halves, u32, Halves, usize),
-    Bad(Refusal, usize),
+    Ok((min, max))
 }
 
 // The range that s begins with, by its head and its contents.
-fn bounds_at(width: Width, s: &[u8]) -> BoundsAt
+fn bounds_at(width: Width, s: &[u8]) -> Taken<(Start, Start)>
     ensures seen { bounds_at_seen s.now result ≡ spec.range_at (bits_of width) s.now }
     ensures inside { BoundsAtIn (bits_of width) (length s.now) result }
 {
-    match heads::open(tags::SEQUENCE, s) {
-        Opening::Bad(refusal) => BoundsAt::Bad(refusal, 0),
-        Opening::Is(k, end) => match bounds_of(width, &s[k..end]) {
-            Bounds::Bad(refusal, at) => BoundsAt::Bad(refusal, k + at),
-            Bounds::Is(n, min, m, max) => BoundsAt::Is(n, min, m, max, end),
-        },
-    }
+    let (k, end) = heads::open(tags::SEQUENCE, s)?;
+    let bounds = after(k, bounds_of(width, &s[k..end]))?;
+    Ok((bounds, end))
 }
 
-// A row, or none where min and max are not the one form of a range.
-#[derive(Clone, Copy)]
-pub enum Ranged {
-    Is(Row),
-    No,
-}
-
-// "min must be below max"; min keeps no trailing zero, max no trailing one but the kept one; "a range that is a prefix must be written as a prefix".
-fn range_row(space: u64, n: u32, low: Halves, m: u32, max: Halves) -> Ranged
-    ensures { result ≡ ranged_seen space (ranged (bits_of (width_of space)) n (whole low) m (one_filled (bits_of (width_of space)) m (whole max))) }
+// The row of a range, or none where min and max are not its one form: "min must be below max"; min keeps no trailing zero, max no trailing one but the kept one; "a range that is a prefix must be written as a prefix".
+fn range_row(space: u64, min: Start, max: Start) -> Option<Row>
+    ensures { result ≡ ranged_seen space (ranged (bits_of (width_of space)) min.bits (whole min.address) max.bits (one_filled (bits_of (width_of space)) max.bits (whole max.address))) }
 {
     let width = spaces::width(space);
-    let high = kept::one_filled(width, m, max);
+    let low = min.address;
+    let high = kept::one_filled(width, max.bits, max.address);
     if !halves::below(low, high) {
-        return Ranged::No;
+        return None;
     }
-    if n != kept::kept_min(width, low) {
-        return Ranged::No;
+    if min.bits != kept::kept_min(width, low) {
+        return None;
     }
-    if m != kept::kept_max(width, high) {
-        return Ranged::No;
+    if max.bits != kept::kept_max(width, high) {
+        return None;
     }
     if shape::is_prefix(width, low, high) {
-        return Ranged::No;
+        return None;
     }
-    let row = Row {
-        space: space,
+    Some(Row {
+        space,
         inherit: 0,
-        low: low,
-        high: high,
-    };
-    Ranged::Is(row)
+        low,
+        high,
+    })
 }
 
 // The row of the range that s begins with.
-fn range_at(space: u64, s: &[u8]) -> Found
+fn range_at(space: u64, s: &[u8]) -> Taken<Row>
     ensures seen { found_seen s.now result ≡ spec.range_row_at (bits_of (width_of space)) s.now }
     ensures inside { FoundIn space (length s.now) result }
 {
-    match bounds_at(spaces::width(space), s) {
-        BoundsAt::Bad(refusal, at) => Found::Bad(refusal, at),
-        BoundsAt::Is(n, min, m, max, end) => match range_row(space, n, min, m, max) {
-            Ranged::No => Found::Bad(Refusal::RangeForm, 0),
-            Ranged::Is(row) => Found::Is(row, end),
-        },
-    }
+    let ((min, max), end) = bounds_at(spaces::width(space), s)?;
+    let row = range_row(space, min, max).ok_or(Refusal::RangeForm)?;
+    Ok((row, end))
 }
 
 // The row of an element, by its head and its contents: every one is read, or refused, here.
-fn any_element(space: u64, s: &[u8]) -> Found
+fn any_element(space: u64, s: &[u8]) -> Taken<Row>
     ensures seen { found_seen s.now result ≡ spec.address_at (bits_of (width_of space)) s.now }
     ensures inside { FoundIn space (length s.now) result }
 {
-    if 0 < s.len() {
-        if s[0] == tags::BIT_STRING {
-            return prefix_at(space, s);
-        }
+    if 0 < s.len() && s[0] == tags::BIT_STRING {
+        return prefix_at(space, s);
     }
     range_at(space, s)
 }
 
 // Returns the row of an element of an address family, and how many octets it took.
-pub fn element(space: u64, s: &[u8]) -> Found
+pub fn element(space: u64, s: &[u8]) -> Taken<Row>
     ensures seen { found_seen s.now result ≡ spec.address_at (bits_of (width_of space)) s.now }
     ensures inside { FoundIn space (length s.now) result }
 {
-    let short = brief_addresses::brief_row(spaces::width(space), s);
-    if 0 < short.taken {
-        let low = short.low;
-        let high = short.high;
-        let row = Row {
-            space: space,
-            inherit: 0,
-            low: low,
-            high: high,
-        };
-        return Found::Is(row, short.taken);
+    match brief_addresses::brief_row(spaces::width(space), s) {
+        None => any_element(space, s),
+        Some((span, end)) => {
+            let row = Row {
+                space,
+                inherit: 0,
+                low: span.low,
+                high: span.high,
+            };
+            Ok((row, end))
+        }
     }
-    any_element(space, s)
 }

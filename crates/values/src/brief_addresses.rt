@@ -11,40 +11,25 @@ use number::address::Address;
 use number::halves::{Halves, Width};
 use number::{address, halves, kept};
 
-// A BIT STRING of one to eight octets, brief: how many octets it took, how many bits it has, and these as the first of 64, with zeros after them.
-// 0 octets where it is not brief, or is to be refused; and zeros, so that `placed` can be asked before it is known which.
+// The bits of a BIT STRING of one to eight octets: how many, and these as the first of 64, with zeros after them.
 #[derive(Clone, Copy)]
 pub struct Brief {
-    pub taken: usize,
     pub count: u32,
     pub bits: u64,
 }
 
-// Nothing was taken.
-fn not_brief() -> Brief
-    ensures { (result.taken ≡ 0) × (result.bits ≡ 0) }
-{
-    Brief {
-        taken: 0,
-        count: 0,
-        bits: 0,
-    }
-}
-
-// The brief BIT STRING that s begins with: its octets are the first of a word, and the bits of them that are left over must be zeros.
-fn brief_bits(width: Width, s: &[u8]) -> Brief
+// The brief BIT STRING that s begins with, and how many octets it took; or none where it is not brief, or is to be refused.
+// Its octets are the first of a word, and the bits of them that are left over must be zeros.
+fn brief_bits(width: Width, s: &[u8]) -> Option<(Brief, usize)>
     ensures { BriefBits (bits_of width) s.now result }
 {
-    if !briefs::is_brief(tags::BIT_STRING, 2, 9, s) {
-        return not_brief();
+    if !briefs::is_brief(tags::BIT_STRING, 2, 9, s) || 7 < s[2] {
+        return None;
     }
-    if 7 < s[2] {
-        return not_brief();
-    }
-    let octets = briefs::wide(s[1]) - 1;
-    let count = 8 * octets - briefs::wide(s[2]);
+    let octets = u32::from(s[1]) - 1;
+    let count = 8 * octets - u32::from(s[2]);
     if halves::bits(width) < count {
-        return not_brief();
+        return None;
     }
     let word = Halves {
         upper: address::spelled(&s[3..11]),
@@ -53,13 +38,9 @@ fn brief_bits(width: Width, s: &[u8]) -> Brief
     let own = kept::zero_filled(Width::Bits128, 8 * octets, word);
     let bits = own.upper;
     if bits % (1u64 << (64 - count)) != 0 {
-        return not_brief();
+        return None;
     }
-    Brief {
-        taken: 3 + octets as usize,
-        count: count,
-        bits: bits,
-    }
+    Some((Brief { count, bits }, 3 + octets as usize))
 }
 
 // The address that begins with these bits, none of which is past the width: so its octets are those of 128 bits that begin with them.
@@ -101,117 +82,71 @@ fn placed_last(width: Width, last: u64) -> Halves
     }
 }
 
-// A brief element: its low and its high, and how many octets it took. 0 octets where it is not brief, or not sure to be right.
+// The numbers of an element, from low to high.
 #[derive(Clone, Copy)]
-pub struct BriefRow {
-    pub taken: usize,
+pub struct Span {
     pub low: Halves,
     pub high: Halves,
 }
 
-// Nothing was taken.
-fn no_row() -> BriefRow
-    ensures { result.taken ≡ 0 }
-{
-    BriefRow {
-        taken: 0,
-        low: halves::ZERO,
-        high: halves::ZERO,
-    }
-}
-
-// The brief prefix that s begins with.
-fn brief_prefix(width: Width, s: &[u8]) -> BriefRow
+// The brief prefix that s begins with, and how many octets it took.
+fn brief_prefix(width: Width, s: &[u8]) -> Option<(Span, usize)>
     ensures { BriefSpan (bits_of width) s.now result }
 {
-    let first = brief_bits(width, s);
-    // Before the test, so that the octets are not looked at one by one: the compiler then has the address in a register.
-    let low = address::to_halves(placed(width, first.bits));
-    if 0 < first.taken {
-        let high = placed_last(width, filled(first.count, first.bits));
-        return BriefRow {
-            taken: first.taken,
-            low: low,
-            high: high,
-        };
-    }
-    no_row()
+    let (prefix, end) = brief_bits(width, s)?;
+    let low = address::to_halves(placed(width, prefix.bits));
+    let high = placed_last(width, filled(prefix.count, prefix.bits));
+    Some((Span { low, high }, end))
 }
 
-// Whether min, of n bits, and max, of m bits, are sure to be the one form of a range. Most ranges are; `addresses::range_row` judges any other.
-fn is_range(n: u32, min: u64, m: u32, max: u64) -> bool
-    requires min_leads { Leading n min }
-    requires max_leads { Leading m max }
-    ensures { result ≡ true → IsRange n min m max }
+// Whether min and max are sure to be the one form of a range. Most ranges are; `addresses::range_row` judges any other.
+fn is_range(min: Brief, max: Brief) -> bool
+    requires min_leads { Leading min.count min.bits }
+    requires max_leads { Leading max.count max.bits }
+    ensures { result ≡ true → IsRange min.count min.bits max.count max.bits }
 {
     // Min ends in a one.
-    if (min >> (64 - n)) % 2 == 0 {
+    if (min.bits >> (64 - min.count)) % 2 == 0 {
         return false;
     }
     // Max ends in a zero, and a one is before it.
-    if (max >> (64 - m)) % 2 == 1 {
+    if (max.bits >> (64 - max.count)) % 2 == 1 || max.bits == 0 {
         return false;
     }
-    if max == 0 {
-        return false;
-    }
-    let last = filled(m, max);
-    if last <= min {
+    let last = filled(max.count, max.bits);
+    if last <= min.bits {
         return false;
     }
     // A prefix has a power of two of addresses, and that has no bit in common with one less.
-    let more = last - min;
-    if more == u64::MAX {
-        return false;
-    }
-    (more + 1) & more != 0
+    let more = last - min.bits;
+    more != u64::MAX && (more + 1) & more != 0
 }
 
-// The brief range that s begins with. Two brief BIT STRINGs have fewer than 128 octets: if they are the contents, the length is one octet, and the head need not be read.
-fn brief_range(width: Width, s: &[u8]) -> BriefRow
+// The brief range that s begins with, and how many octets it took.
+// Two brief BIT STRINGs have fewer than 128 octets: if they are the contents, the length is one octet, and the head need not be read.
+fn brief_range(width: Width, s: &[u8]) -> Option<(Span, usize)>
     ensures { BriefSpan (bits_of width) s.now result }
 {
-    if s.len() < 2 {
-        return no_row();
-    }
-    if s[0] != tags::SEQUENCE {
-        return no_row();
+    if s.len() < 2 || s[0] != tags::SEQUENCE {
+        return None;
     }
     let rest = &s[2..];
-    let min = brief_bits(width, rest);
-    // Before the test, as in `brief_prefix`.
+    let (min, k) = brief_bits(width, rest)?;
+    let (max, j) = brief_bits(width, &rest[k..])?;
+    if k + j != usize::from(s[1]) || !is_range(min, max) {
+        return None;
+    }
     let low = address::to_halves(placed(width, min.bits));
-    let k = min.taken;
-    if k == 0 {
-        return no_row();
-    }
-    let max = brief_bits(width, &rest[k..]);
-    let j = max.taken;
-    if j == 0 {
-        return no_row();
-    }
-    if k + j != briefs::wide(s[1]) as usize {
-        return no_row();
-    }
-    if !is_range(min.count, min.bits, max.count, max.bits) {
-        return no_row();
-    }
     let high = placed_last(width, filled(max.count, max.bits));
-    BriefRow {
-        taken: 2 + k + j,
-        low: low,
-        high: high,
-    }
+    Some((Span { low, high }, 2 + k + j))
 }
 
-// The brief element that s begins with.
-pub(crate) fn brief_row(width: Width, s: &[u8]) -> BriefRow
+// The numbers of the brief element that s begins with, and how many octets it took; or none where it is not brief, or not sure to be right.
+pub(crate) fn brief_row(width: Width, s: &[u8]) -> Option<(Span, usize)>
     ensures { BriefSpan (bits_of width) s.now result }
 {
-    if 0 < s.len() {
-        if s[0] == tags::BIT_STRING {
-            return brief_prefix(width, s);
-        }
+    if 0 < s.len() && s[0] == tags::BIT_STRING {
+        return brief_prefix(width, s);
     }
     brief_range(width, s)
 }

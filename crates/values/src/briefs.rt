@@ -8,21 +8,8 @@ ghost use Rattle.values.specs.Briefs.{is_brief};
 pub fn is_brief(tag: u8, least: u8, most: u8, s: &[u8]) -> bool
     ensures { result ≡ is_brief tag least most s.now }
 {
-    if s.len() < 11 {
-        return false;
-    }
-    if s[0] != tag {
-        return false;
-    }
-    if s[1] < least {
+    if s.len() < 11 || s[0] != tag || s[1] < least {
         return false;
     }
     s[1] <= most
-}
-
-// Returns an octet's number, in the type that counts of bits have.
-pub fn wide(x: u8) -> u32
-    ensures { (result ≡ x) × (result < 256) }
-{
-    x as u32
 }

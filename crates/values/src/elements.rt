@@ -7,12 +7,13 @@ ghost use Rattle.values.specs.Elements as spec;
 ghost use Rattle.values.specs.Seen.{found_seen, FoundIn};
 ghost use Rattle.values.specs.Into.{CountedInto};
 
-use crate::addresses::Found;
+use crate::faults::{Fault, Read, Taken, after};
 use crate::{addresses, ids};
 use number::halves;
 use number::halves::Halves;
 use number::refusal::Refusal;
-use table::rows;
+use table::rows::Row;
+use table::{rows, spaces};
 
 // The lists that a value may have: addresses of a space, AS numbers, routing domain identifiers.
 #[derive(Clone, Copy)]
@@ -22,22 +23,15 @@ pub enum Space {
     RoutingDomains,
 }
 
-// The rows so far; or a refusal and its place.
-#[derive(Clone, Copy)]
-pub enum Counted {
-    Rows(usize),
-    Bad(Refusal, usize),
-}
-
 // The element that s begins with.
-fn element(space: Space, s: &[u8]) -> Found
+fn element(space: Space, s: &[u8]) -> Taken<Row>
     ensures seen { found_seen s.now result ≡ spec.element_at space s.now }
     ensures inside { FoundIn (space_number space) (length s.now) result }
 {
     match space {
         Space::Addresses(number) => addresses::element(number, s),
-        Space::AsNumbers => ids::as_element(s),
-        Space::RoutingDomains => ids::rdi_element(s),
+        Space::AsNumbers => ids::element::<{ spaces::AS_NUMBERS }>(s),
+        Space::RoutingDomains => ids::element::<{ spaces::ROUTING_DOMAINS }>(s),
     }
 }
 
@@ -45,39 +39,30 @@ fn element(space: Space, s: &[u8]) -> Found
 fn early(at: usize, last: Halves, low: Halves) -> bool
     ensures { result ≡ ltb (whole low) (spec.least_at at (whole last)) }
 {
-    if at == 0 {
-        return false;
-    }
-    !halves::past(last, low)
+    at != 0 && !halves::past(last, low)
 }
 
 // Reads the elements of s into the table, from row `count` on.
 // Returns the rows so far, or the refusal and its place in s.
-pub fn read(space: Space, s: &[u8], count: usize, table: &mut [u64]) -> Counted
+pub fn read(space: Space, s: &[u8], count: usize, table: &mut [u64]) -> Read<usize>
     ensures { CountedInto (listed_rows (space_number space)) (length s.now) count table.old (spec.elements_of space count s.now) result table.new }
 {
     let mut rest = s;
     let mut n = count;
-    let mut last = Halves { upper: 0, lower: 0 };
+    let mut last = halves::ZERO;
     while 0 < rest.len() {
         let at = s.len() - rest.len();
-        match element(space, rest) {
-            Found::Bad(refusal, fault) => {
-                return Counted::Bad(refusal, at + fault);
-            }
-            Found::Is(row, k) => {
-                if early(at, last, row.low) {
-                    return Counted::Bad(Refusal::ElementOrder, at);
-                }
-                if rows::ROWS <= n {
-                    return Counted::Bad(Refusal::RowCount, at);
-                }
-                rows::put(table, n, row);
-                last = row.high;
-                rest = &rest[k..];
-                n = n + 1;
-            }
+        let (row, k) = after(at, element(space, rest))?;
+        if early(at, last, row.low) {
+            return Err(Fault::at(at, Refusal::ElementOrder));
         }
+        if rows::ROWS <= n {
+            return Err(Fault::at(at, Refusal::RowCount));
+        }
+        rows::put(table, n, row);
+        last = row.high;
+        rest = &rest[k..];
+        n += 1;
     }
-    Counted::Rows(n)
+    Ok(n)
 }

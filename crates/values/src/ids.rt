@@ -1,18 +1,15 @@
 // ASIdOrRange: "at least one INTEGER or range (min, max)" (RFC 3779, section 3.2.3).
-// "An AS number is never compared with a routing domain identifier": each has a type of its own, from its INTEGER to its row.
+// "An AS number is never compared with a routing domain identifier": each has a type of its own.
 ghost use Rattle.std.specs.Prelude.{◌≡◌, length};
 ghost use Rattle.number.specs.Halves.{halves};
 ghost use Rattle.table.specs.Rows.{in_halves};
-ghost use Rattle.values.specs.Limits.{as_numbers, routing_domains};
 ghost use Rattle.values.specs.Choices.{listed_row};
 ghost use Rattle.values.specs.Ids as spec;
 ghost use Rattle.values.specs.Seen.{integer_seen, IntegerIn, pair_seen, PairIn, pair_at_seen, PairAtIn, range_seen, found_seen, FoundIn};
-ghost use Rattle.values.specs.Briefs.{BriefNumber};
+ghost use Rattle.values.specs.Briefs.{BriefNumber, BriefPair};
 
-use crate::addresses::Found;
 use crate::briefs;
-use der::heads::Opening;
-use der::integers::Integer;
+use crate::faults::{Fault, Read, Taken, after};
 use der::{heads, integers, tags};
 use number::address;
 use number::halves::Halves;
@@ -20,20 +17,13 @@ use number::refusal::Refusal;
 use table::rows::Row;
 use table::spaces;
 
-// An AS number.
+// A number of 32 bits in a space. Numbers of two spaces are of two types.
 #[derive(Clone, Copy)]
-pub struct AsNumber(pub u32);
+pub struct Id<const SPACE: u64>(pub u32);
 
-// A routing domain identifier.
-#[derive(Clone, Copy)]
-pub struct RdiNumber(pub u32);
+pub type AsNumber = Id<{ spaces::AS_NUMBERS }>;
 
-// A row, or none where min is not below max.
-#[derive(Clone, Copy)]
-pub enum Listed {
-    Is(Row),
-    No,
-}
+pub type RdiNumber = Id<{ spaces::ROUTING_DOMAINS }>;
 
 // An identifier in halves: it has 32 bits.
 fn id_halves(n: u32) -> Halves
@@ -41,280 +31,153 @@ fn id_halves(n: u32) -> Halves
 {
     Halves {
         upper: 0,
-        lower: n as u64,
+        lower: u64::from(n),
     }
 }
 
-// Returns the row of the AS numbers from low to high.
-pub fn as_row(low: AsNumber, high: AsNumber) -> Row
-    ensures { result ≡ in_halves (listed_row as_numbers (low.0, high.0)) }
+// Returns the row of the identifiers from low to high.
+pub fn row<const SPACE: u64>(low: Id<SPACE>, high: Id<SPACE>) -> Row
+    ensures { result ≡ in_halves (listed_row SPACE (low.entry.0, high.entry.0)) }
 {
-    let from = id_halves(low.0);
-    let to = id_halves(high.0);
     Row {
-        space: spaces::AS_NUMBERS,
+        space: SPACE,
         inherit: 0,
-        low: from,
-        high: to,
+        low: id_halves(low.0),
+        high: id_halves(high.0),
     }
 }
 
-// Returns the row of the routing domain identifiers from low to high.
-pub fn rdi_row(low: RdiNumber, high: RdiNumber) -> Row
-    ensures { result ≡ in_halves (listed_row routing_domains (low.0, high.0)) }
+// Returns the row of a range of identifiers, or none where min is not below max: "A range has min below max."
+pub fn range<const SPACE: u64>(min: Id<SPACE>, max: Id<SPACE>) -> Option<Row>
+    ensures { result ≡ range_seen SPACE min.entry.0 max.entry.0 }
 {
-    let from = id_halves(low.0);
-    let to = id_halves(high.0);
-    Row {
-        space: spaces::ROUTING_DOMAINS,
-        inherit: 0,
-        low: from,
-        high: to,
+    if min.0 < max.0 {
+        return Some(row(min, max));
     }
+    None
 }
 
-// Returns the row of a range of AS numbers: "A range has min below max."
-pub fn as_range(low: AsNumber, high: AsNumber) -> Listed
-    ensures { result ≡ range_seen as_numbers low.0 high.0 }
-{
-    if low.0 < high.0 {
-        return Listed::Is(as_row(low, high));
-    }
-    Listed::No
-}
-
-// Returns the row of a range of routing domain identifiers: "A range has min below max."
-pub fn rdi_range(low: RdiNumber, high: RdiNumber) -> Listed
-    ensures { result ≡ range_seen routing_domains low.0 high.0 }
-{
-    if low.0 < high.0 {
-        return Listed::Is(rdi_row(low, high));
-    }
-    Listed::No
-}
-
-// An INTEGER that was read, and how many octets it took; or a refusal and its place.
-#[derive(Clone, Copy)]
-pub enum IntegerAt {
-    Is(u32, usize),
-    Bad(Refusal, usize),
-}
-
-// The INTEGER that s begins with, by its head and its contents: whatever the cause, one that is none is refusal 4.
-fn any_integer_at(s: &[u8]) -> IntegerAt
+// The INTEGER that s begins with, by its head and its contents.
+fn any_integer_at(s: &[u8]) -> Taken<u32>
     ensures seen { integer_seen s.now result ≡ spec.integer_at s.now }
     ensures inside { IntegerIn (length s.now) result }
 {
-    match heads::open(tags::INTEGER, s) {
-        Opening::Bad(refusal) => IntegerAt::Bad(refusal, 0),
-        Opening::Is(k, end) => match integers::read(&s[k..end]) {
-            Integer::Is(x) => IntegerAt::Is(x, end),
-            Integer::Empty => IntegerAt::Bad(Refusal::Contents, 0),
-            Integer::Negative => IntegerAt::Bad(Refusal::Contents, 0),
-            Integer::Padded => IntegerAt::Bad(Refusal::Contents, 0),
-            Integer::TooLarge => IntegerAt::Bad(Refusal::Contents, 0),
-        },
-    }
+    let (k, end) = heads::open(tags::INTEGER, s)?;
+    let x = integers::read(&s[k..end])?;
+    Ok((x, end))
 }
 
-// An INTEGER of one to five octets, brief: how many octets it took, and the number. 0 octets where it is not brief, or is to be refused.
-#[derive(Clone, Copy)]
-pub struct Brief {
-    pub taken: usize,
-    pub number: u32,
-}
-
-// Nothing was taken.
-fn not_brief() -> Brief
-    ensures { result.taken ≡ 0 }
-{
-    Brief {
-        taken: 0,
-        number: 0,
-    }
-}
-
-// The brief INTEGER that s begins with: its octets are the first of a word.
-fn brief_number(s: &[u8]) -> Brief
+// The INTEGER of one to five octets that s begins with, and how many octets it took; or none where it is not brief, or is to be refused.
+// Its octets are the first of a word.
+fn brief_number(s: &[u8]) -> Option<(u32, usize)>
     ensures { BriefNumber s.now result }
 {
     if !briefs::is_brief(tags::INTEGER, 1, 5, s) {
-        return not_brief();
+        return None;
     }
-    let octets = briefs::wide(s[1]);
+    let octets = u32::from(s[1]);
     let x = address::spelled(&s[2..10]) >> (64 - 8 * octets);
     if 4294967295 < x {
-        return not_brief();
+        return None;
     }
     let number = x as u32;
     // So many octets are the number's own: they are minimal, and not negative.
     if integers::octets(number) != octets as usize {
-        return not_brief();
+        return None;
     }
-    Brief {
-        taken: 2 + octets as usize,
-        number: number,
-    }
+    Some((number, 2 + octets as usize))
 }
 
 // The INTEGER that s begins with.
-fn integer_at(s: &[u8]) -> IntegerAt
+fn integer_at(s: &[u8]) -> Taken<u32>
     ensures seen { integer_seen s.now result ≡ spec.integer_at s.now }
     ensures inside { IntegerIn (length s.now) result }
 {
-    let short = brief_number(s);
-    if 0 < short.taken {
-        return IntegerAt::Is(short.number, short.taken);
+    match brief_number(s) {
+        Some(taken) => Ok(taken),
+        None => any_integer_at(s),
     }
-    any_integer_at(s)
-}
-
-// Min and max of a range; or a refusal and its place.
-#[derive(Clone, Copy)]
-pub enum Pair {
-    Is(u32, u32),
-    Bad(Refusal, usize),
 }
 
 // The contents of a range: min, then max, then nothing. Not by `integer_at`: where both are brief, `pair_at` has taken them.
-fn pair_of(s: &[u8]) -> Pair
+fn pair_of(s: &[u8]) -> Read<(u32, u32)>
     ensures seen { pair_seen result ≡ spec.pair_of s.now }
     ensures inside { PairIn (length s.now) result }
 {
-    match any_integer_at(s) {
-        IntegerAt::Bad(refusal, at) => Pair::Bad(refusal, at),
-        IntegerAt::Is(min, k) => {
-            let rest = &s[k..];
-            match any_integer_at(rest) {
-                IntegerAt::Bad(refusal, at) => Pair::Bad(refusal, k + at),
-                IntegerAt::Is(max, j) => {
-                    if j < rest.len() {
-                        return Pair::Bad(Refusal::OctetsLeft, k + j);
-                    }
-                    Pair::Is(min, max)
-                }
-            }
-        }
+    let (min, k) = any_integer_at(s)?;
+    let rest = &s[k..];
+    let (max, j) = after(k, any_integer_at(rest))?;
+    if j < rest.len() {
+        return Err(Fault::at(k + j, Refusal::OctetsLeft));
     }
-}
-
-// A range that was read, and how many octets it took; or a refusal and its place.
-#[derive(Clone, Copy)]
-pub enum PairAt {
-    Is(u32, u32, usize),
-    Bad(Refusal, usize),
+    Ok((min, max))
 }
 
 // The range that s begins with, by its head and its contents.
-fn any_pair_at(s: &[u8]) -> PairAt
+fn any_pair_at(s: &[u8]) -> Taken<(u32, u32)>
     ensures seen { pair_at_seen s.now result ≡ spec.pair_at s.now }
     ensures inside { PairAtIn (length s.now) result }
 {
-    match heads::open(tags::SEQUENCE, s) {
-        Opening::Bad(refusal) => PairAt::Bad(refusal, 0),
-        Opening::Is(k, end) => match pair_of(&s[k..end]) {
-            Pair::Bad(refusal, at) => PairAt::Bad(refusal, k + at),
-            Pair::Is(min, max) => PairAt::Is(min, max, end),
-        },
-    }
+    let (k, end) = heads::open(tags::SEQUENCE, s)?;
+    let pair = after(k, pair_of(&s[k..end]))?;
+    Ok((pair, end))
 }
 
-// The range that s begins with. Two brief INTEGERs have fewer than 128 octets: if they are the contents, the length is one octet, and the head need not be read.
-fn pair_at(s: &[u8]) -> PairAt
+// The range of two brief INTEGERs that s begins with, and how many octets it took.
+// Two such have fewer than 128 octets: if they are the contents, the length is one octet, and the head need not be read.
+fn brief_pair(s: &[u8]) -> Option<((u32, u32), usize)>
+    ensures { BriefPair s.now result }
+{
+    if s.len() < 2 || s[0] != tags::SEQUENCE {
+        return None;
+    }
+    let rest = &s[2..];
+    let (min, k) = brief_number(rest)?;
+    let (max, j) = brief_number(&rest[k..])?;
+    if k + j != usize::from(s[1]) {
+        return None;
+    }
+    Some(((min, max), 2 + k + j))
+}
+
+// The range that s begins with.
+fn pair_at(s: &[u8]) -> Taken<(u32, u32)>
     ensures seen { pair_at_seen s.now result ≡ spec.pair_at s.now }
     ensures inside { PairAtIn (length s.now) result }
 {
-    if 2 <= s.len() {
-        if s[0] == tags::SEQUENCE {
-            let rest = &s[2..];
-            let min = brief_number(rest);
-            let k = min.taken;
-            if 0 < k {
-                let max = brief_number(&rest[k..]);
-                let j = max.taken;
-                if 0 < j {
-                    if k + j == briefs::wide(s[1]) as usize {
-                        return PairAt::Is(min.number, max.number, 2 + k + j);
-                    }
-                }
-            }
-        }
+    match brief_pair(s) {
+        Some(taken) => Ok(taken),
+        None => any_pair_at(s),
     }
-    any_pair_at(s)
 }
 
-// The AS number that s begins with.
-fn as_number_at(s: &[u8]) -> Found
+// The row of the identifier that s begins with.
+fn number_at<const SPACE: u64>(s: &[u8]) -> Taken<Row>
     ensures seen { found_seen s.now result ≡ spec.number_at s.now }
-    ensures inside { FoundIn as_numbers (length s.now) result }
+    ensures inside { FoundIn SPACE (length s.now) result }
 {
-    match integer_at(s) {
-        IntegerAt::Bad(refusal, at) => Found::Bad(refusal, at),
-        IntegerAt::Is(x, end) => Found::Is(as_row(AsNumber(x), AsNumber(x)), end),
-    }
+    let (x, end) = integer_at(s)?;
+    let id = Id::<SPACE>(x);
+    Ok((row(id, id), end))
 }
 
-// A range of AS numbers that s begins with.
-fn as_range_at(s: &[u8]) -> Found
+// The row of the range of identifiers that s begins with.
+fn range_at<const SPACE: u64>(s: &[u8]) -> Taken<Row>
     ensures seen { found_seen s.now result ≡ spec.range_at s.now }
-    ensures inside { FoundIn as_numbers (length s.now) result }
+    ensures inside { FoundIn SPACE (length s.now) result }
 {
-    match pair_at(s) {
-        PairAt::Bad(refusal, at) => Found::Bad(refusal, at),
-        PairAt::Is(min, max, end) => match as_range(AsNumber(min), AsNumber(max)) {
-            Listed::No => Found::Bad(Refusal::RangeForm, 0),
-            Listed::Is(row) => Found::Is(row, end),
-        },
-    }
+    let ((min, max), end) = pair_at(s)?;
+    let row = range(Id::<SPACE>(min), Id::<SPACE>(max)).ok_or(Refusal::RangeForm)?;
+    Ok((row, end))
 }
 
-// Returns the row of an element of a list of AS numbers, and how many octets it took.
-pub fn as_element(s: &[u8]) -> Found
+// Returns the row of an element of a list of identifiers of a space, and how many octets it took.
+pub fn element<const SPACE: u64>(s: &[u8]) -> Taken<Row>
     ensures seen { found_seen s.now result ≡ spec.id_at s.now }
-    ensures inside { FoundIn as_numbers (length s.now) result }
+    ensures inside { FoundIn SPACE (length s.now) result }
 {
-    if 0 < s.len() {
-        if s[0] == tags::INTEGER {
-            return as_number_at(s);
-        }
+    if 0 < s.len() && s[0] == tags::INTEGER {
+        return number_at::<SPACE>(s);
     }
-    as_range_at(s)
-}
-
-// The routing domain identifier that s begins with: by its head and its contents, as such are hardly ever used, and need not be fast.
-fn rdi_number_at(s: &[u8]) -> Found
-    ensures seen { found_seen s.now result ≡ spec.number_at s.now }
-    ensures inside { FoundIn routing_domains (length s.now) result }
-{
-    match any_integer_at(s) {
-        IntegerAt::Bad(refusal, at) => Found::Bad(refusal, at),
-        IntegerAt::Is(x, end) => Found::Is(rdi_row(RdiNumber(x), RdiNumber(x)), end),
-    }
-}
-
-// A range of routing domain identifiers that s begins with.
-fn rdi_range_at(s: &[u8]) -> Found
-    ensures seen { found_seen s.now result ≡ spec.range_at s.now }
-    ensures inside { FoundIn routing_domains (length s.now) result }
-{
-    match any_pair_at(s) {
-        PairAt::Bad(refusal, at) => Found::Bad(refusal, at),
-        PairAt::Is(min, max, end) => match rdi_range(RdiNumber(min), RdiNumber(max)) {
-            Listed::No => Found::Bad(Refusal::RangeForm, 0),
-            Listed::Is(row) => Found::Is(row, end),
-        },
-    }
-}
-
-// Returns the row of an element of a list of routing domain identifiers, and how many octets it took.
-pub fn rdi_element(s: &[u8]) -> Found
-    ensures seen { found_seen s.now result ≡ spec.id_at s.now }
-    ensures inside { FoundIn routing_domains (length s.now) result }
-{
-    if 0 < s.len() {
-        if s[0] == tags::INTEGER {
-            return rdi_number_at(s);
-        }
-    }
-    rdi_range_at(s)
+    range_at::<SPACE>(s)
 }

@@ -3,7 +3,6 @@ ghost use Rattle.std.specs.Prelude.{◌≡◌};
 ghost use Rattle.values.specs.Parted.{has_octets, fault_octets, fault_pointer};
 ghost use Rattle.values.specs.Readings.{read_both};
 
-use crate::readings::Reading;
 use crate::{limits, readings};
 use number::refusal;
 use number::refusal::Refusal;
@@ -32,22 +31,14 @@ pub fn fault<'a>(ip: &'a [u8], ids: &'a [u8], table: &mut [u64]) -> &'a [u8]
     ensures pointer { result.ref_ptr ≡ fault_pointer ip.entry.ref_ptr ids.entry.ref_ptr ip.now ids.now table.old }
     ensures left { table.new ≡ (read_both ip.now ids.now table.old).1 }
 {
-    let reading = readings::read_both(ip, ids, table);
-    match reading {
-        Reading::Rows(_) => {
-            return &ip[0..0];
-        }
-        Reading::Refused(fault) => {
-            let refusal = fault.refusal;
-            let extension = fault.extension;
-            let at = fault.place;
-            if has_octets(refusal) {
-                if extension == limits::IP_EXTENSION {
-                    return &ip[at..];
-                }
-                return &ids[at..];
+    match readings::read_both(ip, ids, table) {
+        Err(fault) if has_octets(fault.refusal) => {
+            if fault.extension == limits::IP_EXTENSION {
+                &ip[fault.place..]
+            } else {
+                &ids[fault.place..]
             }
-            return &ip[0..0];
         }
+        _ => &ip[0..0],
     }
 }

@@ -3,7 +3,7 @@ ghost use Rattle.std.specs.Prelude.{◌≡◌, length};
 ghost use Rattle.values.specs.Readings as spec;
 ghost use Rattle.values.specs.Inside.{IpIn, AsIn, BothIn};
 
-use crate::elements::Counted;
+use crate::faults::{Fault, Read};
 use crate::{blocks, identifiers, limits};
 use number::halves;
 use number::halves::Halves;
@@ -22,21 +22,17 @@ pub struct Refused {
 }
 
 // The rows that the table has now, or a refusal.
-#[derive(Clone, Copy)]
-pub enum Reading {
-    Rows(usize),
-    Refused(Refused),
-}
+pub type Reading = Result<usize, Refused>;
 
 // Returns the refusal with what it names: "Space is set for 14 and 15, value for 15, else 0".
 pub fn naming(refusal: Refusal, certificate: u64, extension: u64, place: usize) -> Refused
     ensures { result ≡ spec.naming refusal certificate extension place }
 {
     Refused {
-        refusal: refusal,
-        certificate: certificate,
-        extension: extension,
-        place: place,
+        refusal,
+        certificate,
+        extension,
+        place,
         space: 0,
         value: halves::ZERO,
     }
@@ -46,18 +42,18 @@ pub fn naming(refusal: Refusal, certificate: u64, extension: u64, place: usize) 
 fn refuse(refusal: Refusal, extension: u64, place: usize) -> Reading
     ensures { result ≡ spec.refused_at refusal extension place }
 {
-    Reading::Refused(naming(refusal, 0, extension, place))
+    Err(naming(refusal, 0, extension, place))
 }
 
 // The reader's answer to what was counted. A refusal leaves zeros in the table.
-fn answer(extension: u64, counted: Counted, table: &mut [u64]) -> Reading
+fn answer(extension: u64, counted: Read<usize>, table: &mut [u64]) -> Reading
     ensures { (result, table.new) ≡ spec.answered extension counted table.old }
 {
     match counted {
-        Counted::Rows(n) => Reading::Rows(n),
-        Counted::Bad(refusal, place) => {
+        Ok(n) => Ok(n),
+        Err(fault) => {
             rows::clear(table, rows::NUMBERS);
-            refuse(refusal, extension, place)
+            refuse(fault.refusal, extension, fault.place)
         }
     }
 }
@@ -72,7 +68,7 @@ pub fn step_ip(value: &[u8], table: &mut [u64]) -> Reading
         return refuse(Refusal::TableShort, 0, 0);
     }
     if limits::MAX_OCTETS < value.len() {
-        let large = Counted::Bad(Refusal::ValueSize, 0);
+        let large = Err(Fault::from(Refusal::ValueSize));
         return answer(limits::IP_EXTENSION, large, table);
     }
     let counted = blocks::read(value, table);
@@ -89,7 +85,7 @@ pub fn step_as(value: &[u8], count: usize, table: &mut [u64]) -> Reading
         return refuse(Refusal::TableShort, 0, 0);
     }
     if limits::MAX_OCTETS < value.len() {
-        let large = Counted::Bad(Refusal::ValueSize, 0);
+        let large = Err(Fault::from(Refusal::ValueSize));
         return answer(limits::AS_EXTENSION, large, table);
     }
     let counted = identifiers::read(value, count, table);
@@ -128,11 +124,11 @@ pub fn read_as(value: &[u8], table: &mut [u64]) -> Reading
 
 // After the IP value's rows: the AS value's are counted on; an empty value is absent.
 fn after_ip(count: usize, ids: &[u8], table: &mut [u64]) -> Reading
-    ensures reply { (result, table.new) ≡ spec.on_as ids.now table.old (Reading.Rows count) }
+    ensures reply { (result, table.new) ≡ spec.on_as ids.now table.old (Ok count) }
     ensures inside { AsIn (length ids.now) result }
 {
     if ids.len() == 0 {
-        return Reading::Rows(count);
+        return Ok(count);
     }
     step_as(ids, count, table)
 }
@@ -146,11 +142,8 @@ pub fn step_both(ip: &[u8], ids: &[u8], table: &mut [u64]) -> Reading
     if ip.len() == 0 {
         return after_ip(0, ids, table);
     }
-    let reading = step_ip(ip, table);
-    match reading {
-        Reading::Refused(_) => reading,
-        Reading::Rows(n) => after_ip(n, ids, table),
-    }
+    let count = step_ip(ip, table)?;
+    after_ip(count, ids, table)
 }
 
 // Reads one certificate's two values: IP rows, then AS rows; an empty value is absent.

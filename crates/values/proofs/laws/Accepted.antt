@@ -25,25 +25,25 @@ use Rattle.values.specs.Tables.{ip_rows, as_rows}
 use Rattle.values.specs.Encode.{encode}
 use Rattle.values.specs.Readings.{Left, short, refused_with, settled, step_of, step_ip, step_as, alone, read_ip, read_as}
 use Rattle.values.specs.declared.readings.Refused.{Refused}
-use Rattle.values.specs.declared.readings.Reading.TheVariants as reading
 use Rattle.values.proofs.laws.Exact.{ip_reads, as_reads, ip_exact, as_exact, encode_size}
+use Rattle.std.specs.Prelude.{Ok, Err}
 
 -- the reply counts the rows, and the table t has them and then zeros
 abbrev pub Accepted : List ℕ → List Row → Left
-Accepted t rows = (reading.Rows (length rows), with_rows (cleared table_numbers t) 0 rows)
+Accepted t rows = (Ok (length rows), with_rows (cleared table_numbers t) 0 rows)
 
 -- a refusal is no such reply
-not_rows : {f : Refused} {n : ℕ} → reading.Refused f ≡ reading.Rows n → ⊥
+not_rows : {f : Refused} {n : ℕ} → Err f ≡ Ok n → ⊥
 not_rows h = let z : ◌≡◌ {A = ℕ} 0 1 = cc in omega arith
 
 -- whatever table is beside it
-no_rows : (f : Refused) (t u : List ℕ) (n : ℕ) → ◌≡◌ {A = Left} (reading.Refused f, t) (reading.Rows n, u) → ⊥
+no_rows : (f : Refused) (t u : List ℕ) (n : ℕ) → ◌≡◌ {A = Left} (Err f, t) (Ok n, u) → ⊥
 no_rows f t u n h = not_rows (ap (λ (l : Left). l.0) h)
 
 -- rows that were written
-settled_was : (extension : ℕ) (o : Contents (List Row) Fault) (t u : List ℕ) (n : ℕ) → settled extension 0 o t ≡ (reading.Rows n, u) → (rows : List Row) × (o ≡ is rows) × (settled extension 0 o t ≡ (reading.Rows (length rows), with_rows t 0 rows))
+settled_was : (extension : ℕ) (o : Contents (List Row) Fault) (t u : List ℕ) (n : ℕ) → settled extension 0 o t ≡ (Ok n, u) → (rows : List Row) × (o ≡ is rows) × (settled extension 0 o t ≡ (Ok (length rows), with_rows t 0 rows))
 settled_was extension (isnt f) t u n h = absurd (no_rows _ _ u n h)
-settled_was extension (is rows) t u n h = (rows, refl, ap (λ (k : ℕ). (reading.Rows k, with_rows t 0 rows)) (omega arith))
+settled_was extension (is rows) t u n h = (rows, refl, ap (λ (k : ℕ). (Ok k, with_rows t 0 rows)) (omega arith))
 
 -- a reader of a value by itself, by what it makes of the octets
 module _ (extension : ℕ) (o : Contents (List Row) Fault) (v t : List ℕ) where
@@ -55,15 +55,15 @@ module _ (extension : ℕ) (o : Contents (List Row) Fault) (v t : List ℕ) wher
   reads_is : (rows : List Row) → table_numbers ≤ length t → 1 ≤ length v → length v ≤ max_octets → o ≡ is rows → Reads ≡ Accepted t rows
   reads_is rows p q r e =
       rw (le-ltb (length t) table_numbers p, ne_eqb (length v) 0 (omega arith), length-cleared table_numbers t, le-ltb (length t) table_numbers p, le-ltb max_octets (length v) r, e)
-      (ap (λ (k : ℕ). (reading.Rows k, with_rows (cleared table_numbers t) 0 rows)) (omega arith))
+      (ap (λ (k : ℕ). (Ok k, with_rows (cleared table_numbers t) 0 rows)) (omega arith))
 
   -- and nothing else is
-  reads_was : (u : List ℕ) (n : ℕ) → Reads ≡ (reading.Rows n, u) → (rows : List Row) × (o ≡ is rows) × (table_numbers ≤ length t) × ((reading.Rows n, u) ≡ Accepted t rows)
+  reads_was : (u : List ℕ) (n : ℕ) → Reads ≡ (Ok n, u) → (rows : List Row) × (o ≡ is rows) × (table_numbers ≤ length t) × ((Ok n, u) ≡ Accepted t rows)
   reads_was u n h =
-      let a = pick_not (ltb (length t) table_numbers) (reading.Rows n, u) (short t) _ (no_rows _ _ u n) h in
-      let b = pick_not (eqb (length v) 0) (reading.Rows n, u) (refused_with extension (at 0 refusal.ValueSize) t) _ (no_rows _ _ u n) a.1 in
-      let c = pick_not (ltb (length (cleared table_numbers t)) table_numbers) (reading.Rows n, u) (short (cleared table_numbers t)) _ (no_rows _ _ u n) b.1 in
-      let d = pick_not (ltb max_octets (length v)) (reading.Rows n, u) (refused_with extension (at 0 refusal.ValueSize) (cleared table_numbers t)) _ (no_rows _ _ u n) c.1 in
+      let a = pick_not (ltb (length t) table_numbers) (Ok n, u) (short t) _ (no_rows _ _ u n) h in
+      let b = pick_not (eqb (length v) 0) (Ok n, u) (refused_with extension (at 0 refusal.ValueSize) t) _ (no_rows _ _ u n) a.1 in
+      let c = pick_not (ltb (length (cleared table_numbers t)) table_numbers) (Ok n, u) (short (cleared table_numbers t)) _ (no_rows _ _ u n) b.1 in
+      let d = pick_not (ltb max_octets (length v)) (Ok n, u) (refused_with extension (at 0 refusal.ValueSize) (cleared table_numbers t)) _ (no_rows _ _ u n) c.1 in
       let (rows, e, q) = settled_was extension o (cleared table_numbers t) u n d.1 in
       (rows, e, ltb-false (length t) table_numbers a.0, sym d.1 ∙ q)
 
@@ -83,7 +83,7 @@ ip_accepts t rows h a =
     reads_is ip_extension (ip_rows (encode ip_kind rows)) (encode ip_kind rows) t rows h p q (ip_reads rows a)
 
 -- and nothing else
-pub ip_accepted : (v t u : List ℕ) (n : ℕ) → Octets v → read_ip v t ≡ (reading.Rows n, u) → Was ip_kind v t (reading.Rows n, u)
+pub ip_accepted : (v t u : List ℕ) (n : ℕ) → Octets v → read_ip v t ≡ (Ok n, u) → Was ip_kind v t (Ok n, u)
 unfolding read_ip step_ip
 ip_accepted v t u n b h =
     let (rows, e, q, l) = reads_was ip_extension (ip_rows v) v t u n h in
@@ -98,7 +98,7 @@ as_accepts t rows h a =
     reads_is as_extension (as_rows 0 (encode as_kind rows)) (encode as_kind rows) t rows h p q (as_reads 0 rows a (omega (arith, a.few)))
 
 -- and nothing else
-pub as_accepted : (v t u : List ℕ) (n : ℕ) → Octets v → read_as v t ≡ (reading.Rows n, u) → Was as_kind v t (reading.Rows n, u)
+pub as_accepted : (v t u : List ℕ) (n : ℕ) → Octets v → read_as v t ≡ (Ok n, u) → Was as_kind v t (Ok n, u)
 unfolding read_as step_as
 as_accepted v t u n b h =
     let (rows, e, q, l) = reads_was as_extension (as_rows 0 v) v t u n h in

@@ -22,8 +22,8 @@ use Rattle.der.specs.Tags.{INTEGER, BIT_STRING, SEQUENCE}
 use Rattle.der.specs.Head.{element}
 use Rattle.der.specs.Bits.{Bits, begun, bad, read_bits, bits_of, bits_size}
 use Rattle.der.specs.Integer.{integer_of, integer_octets}
-use Rattle.der.specs.declared.integers.Integer as code
-use Rattle.der.specs.declared.integers.Integer.TheVariants as integer
+use Rattle.der.specs.declared.integers.BadInteger.{BadInteger}
+use Rattle.std.specs.Prelude.{Result, Ok, Err}
 use Rattle.der.specs.Parts.{Contents, is, isnt, Part, part, nopart, sifted}
 use Rattle.der.proofs.laws.Heads.{Sized, head_two, tag_first, element_longer, element_size_lem as whole_size}
 use Rattle.der.proofs.laws.Bits.{Begins, bits_read, bits_of_lem, bits_size_lem}
@@ -116,12 +116,9 @@ address_laws w m = record {
 }
 
 -- a number that was read
-integer_was : (o : code.Integer) (x : ℕ) → id.integer_contents o ≡ is x → o ≡ integer.Is x
-integer_was (integer.Is y) x h = cc
-integer_was integer.Empty x h = absurd (no_is h)
-integer_was integer.Negative x h = absurd (no_is h)
-integer_was integer.Padded x h = absurd (no_is h)
-integer_was integer.TooLarge x h = absurd (no_is h)
+integer_was : (o : Result ℕ BadInteger) (x : ℕ) → id.integer_contents o ≡ is x → o ≡ Ok x
+integer_was (Ok y) x h = cc
+integer_was (Err cause) x h = absurd (no_is h)
 
 -- a number of an INTEGER
 abbrev Small : ℕ → Type 0

@@ -5,6 +5,7 @@
 --     NAME_one_reply               for each public function of this crate
 use mathlib.Core.Path.{◌≡◌, refl, sym, ap, ◌∙◌}
 use mathlib.Core.List.{List}
+use Rattle.std.proofs.Common.{Fits, w64}
 use Prim.Native.Nat.{ℕ, ◌^◌, ◌<◌, ◌≤◌}
 use native.Mathlib.Omega.{arith}
 use contract.Lifetimes.{Lfts}
@@ -16,7 +17,7 @@ use Rattle.number.proofs.laws.OneReply.{OneReply, one_reply}
 use Rattle.table.specs.Sizes.{table_numbers}
 use Rattle.table.specs.Rows.{Row, cleared}
 use Rattle.der.specs.Parts.{Contents, is, isnt, Part, part, nopart}
-use Rattle.values.specs.Faults.{Fault, at}
+use Rattle.values.specs.Faults.{Fault}
 use Rattle.values.specs.Limits.{as_numbers, routing_domains}
 use Rattle.values.specs.Choices.{Choice, choice_at, listed_rows}
 use Rattle.values.specs.Elements.{elements_of}
@@ -27,28 +28,17 @@ use Rattle.values.specs.Spaces.{space_number}
 use Rattle.values.specs.Seen.{found_seen, FoundIn}
 use Rattle.values.specs.Into.{Stands, CountedInto, ChosenInto}
 use Rattle.values.specs.Readings.{Left}
-use Rattle.values.specs.declared.addresses.Found.{Found}
-use Rattle.values.specs.declared.addresses.Found.TheVariants as found
-use Rattle.values.specs.declared.elements.Counted.{Counted}
-use Rattle.values.specs.declared.elements.Counted.TheVariants as counted
-use Rattle.values.specs.declared.choices.Chosen.{Chosen}
-use Rattle.values.specs.declared.choices.Chosen.TheVariants as chosen
 use Rattle.values.proofs.addresses.element.Kinds as of_element
-use Rattle.values.proofs.ids.as_element.Kinds as of_as_element
-use Rattle.values.proofs.ids.rdi_element.Kinds as of_rdi_element
 use Rattle.values.proofs.addresses.element.Reads as element
 use Rattle.values.proofs.blocks.read.Reads as blocks_read
 use Rattle.values.proofs.briefs.is_brief.Reads as is_brief
-use Rattle.values.proofs.briefs.wide.Reads as wide
 use Rattle.values.proofs.choices.read.Reads as choices_read
 use Rattle.values.proofs.elements.read.Reads as elements_read
 use Rattle.values.proofs.identifiers.read.Reads as identifiers_read
-use Rattle.values.proofs.ids.as_row.Reads as as_row
-use Rattle.values.proofs.ids.rdi_row.Reads as rdi_row
-use Rattle.values.proofs.ids.as_range.Reads as as_range
-use Rattle.values.proofs.ids.rdi_range.Reads as rdi_range
-use Rattle.values.proofs.ids.as_element.Reads as as_element
-use Rattle.values.proofs.ids.rdi_element.Reads as rdi_element
+use Rattle.values.proofs.ids.row.Reads as row
+use Rattle.values.proofs.ids.range.Reads as range
+use Rattle.values.proofs.ids.element.Reads as id_element
+use Rattle.values.proofs.ids.element.Kinds as of_id
 use Rattle.values.proofs.parts.fault.Reads as fault
 use Rattle.values.proofs.parts.has_octets.Reads as has_octets
 use Rattle.values.proofs.readings.naming.Reads as naming
@@ -58,10 +48,13 @@ use Rattle.values.proofs.readings.read_ip.Reads as read_ip
 use Rattle.values.proofs.readings.read_as.Reads as read_as
 use Rattle.values.proofs.readings.step_both.Reads as step_both
 use Rattle.values.proofs.readings.read_both.Reads as read_both
+use Rattle.values.specs.Faults.{Read, Taken}
+use Rattle.std.specs.Prelude.{Ok, Err}
+use Rattle.table.specs.declared.rows.Row as code
 
 -- a promise, of a result whose numbers fit their types
 abbrev Typed : {K : Type 0} {A R S : K → Type 0} → ((κs : K) → R κs → Type 0) → ((κs : K) → A κs → R κs → S κs → Type 0) → (κs : K) → A κs → R κs → S κs → Type 0
-Typed Ok Post κs a r s = Ok κs r × Post κs a r s
+Typed Held Post κs a r s = Held κs r × Post κs a r s
 
 -- what is left of a list says how much was taken
 end_one : (s : List ℕ) (j k : ℕ) → j ≤ length s → k ≤ length s → drop j s ≡ drop k s → j ≡ k
@@ -71,26 +64,37 @@ end_one s j k p q e = omega (arith, length-drop j s, length-drop k s, ap length 
 halves_one : (x y : Halves) → x.lower < 2 ^ 64 → y.lower < 2 ^ 64 → whole x ≡ whole y → x ≡ y
 halves_one x y p q e = halves_whole x p ∙ ap halves e ∙ sym (halves_whole y q)
 
--- the lower halves of a found row fit
-abbrev Fit : Found → Type 0
-Fit (found.Is row end) = (row.low.lower < 2 ^ 64) × (row.high.lower < 2 ^ 64)
-Fit (found.Bad r q) = Unit {0}
+-- the two spaces of identifiers are numbers of 64 bits
+abbrev as_fits : Fits w64 as_numbers
+as_fits = record { fits = omega arith }
 
-fit : (κs : Lfts 1) (f : Found) → (of_element.r).is.Ok κs f → Fit f
-fit κs (found.Is row end) p = (omega arith, omega arith)
-fit κs (found.Bad r q) p = tt
+abbrev rdi_fits : Fits w64 routing_domains
+rdi_fits = record { fits = omega arith }
+
+-- the lower halves of a found row fit
+abbrev Fit : Taken code.Row → Type 0
+Fit (Ok (row, end)) = (row.low.lower < 2 ^ 64) × (row.high.lower < 2 ^ 64)
+Fit (Err f) = Unit {0}
+
+fit : (κs : Lfts 1) (f : Taken code.Row) → (of_element.r).is.Ok κs f → Fit f
+fit κs (Ok (row, end)) p = (omega arith, omega arith)
+fit κs (Err f) p = tt
+
+fit_id : (n : ℕ) (h : Fits w64 n) (κs : Lfts 2) (f : Taken code.Row) → (of_id.r n h).is.Ok κs f → Fit f
+fit_id n h κs (Ok (row, end)) p = (omega arith, omega arith)
+fit_id n h κs (Err f) p = tt
 
 -- one element: its row in the space a and its end, or its refusal and place
-found_one : (s : List ℕ) (a : ℕ) (f g : Found) → Fit f → Fit g → found_seen s f ≡ found_seen s g → FoundIn a (length s) f → FoundIn a (length s) g → f ≡ g
-found_one s a (found.Is row end) (found.Is row' end') p q e i j =
+found_one : (s : List ℕ) (a : ℕ) (f g : Taken code.Row) → Fit f → Fit g → found_seen s f ≡ found_seen s g → FoundIn a (length s) f → FoundIn a (length s) g → f ≡ g
+found_one s a (Ok (row, end)) (Ok (row', end')) p q e i j =
     let w : ◌≡◌ {A = ℕ × ℕ} (whole row.low, whole row.high) (whole row'.low, whole row'.high) = cc in
     let x = halves_one row.low row'.low p.0 q.0 (ap (λ (n : ℕ × ℕ). n.0) w) in
     let y = halves_one row.high row'.high p.1 q.1 (ap (λ (n : ℕ × ℕ). n.1) w) in
     let z = end_one s end end' i.2.1 j.2.1 (cc) in
-    λ k. found.Is (record { space = one_reply i.0 j.0 k; inherit = one_reply i.1 j.1 k; low = x k; high = y k }) (z k)
-found_one s a (found.Is row end) (found.Bad r' q') p q e i j = let z : ◌≡◌ {A = ℕ} 0 1 = cc in absurd (omega arith)
-found_one s a (found.Bad r p') (found.Is row' end') p q e i j = let z : ◌≡◌ {A = ℕ} 0 1 = cc in absurd (omega arith)
-found_one s a (found.Bad r p') (found.Bad r' q') p q e i j = let w : at p' r ≡ at q' r' = cc in ap (λ (f : Fault). found.Bad f.0 f.1) w
+    λ k. Ok ((record { space = one_reply i.0 j.0 k; inherit = one_reply i.1 j.1 k; low = x k; high = y k }), (z k))
+found_one s a (Ok (row, end)) (Err f) p q e i j = let z : ◌≡◌ {A = ℕ} 0 1 = cc in absurd (omega arith)
+found_one s a (Err f) (Ok (row', end')) p q e i j = let z : ◌≡◌ {A = ℕ} 0 1 = cc in absurd (omega arith)
+found_one s a (Err f) (Err g) p q e i j = let w : f ≡ g = cc in ap Err w
 
 -- a table of which a promise says no more than how long it is and what follows its first 3,072 numbers, with zeros for those
 open_one : (t t₁ t₂ : List ℕ) → Stands t t₁ → Stands t t₂ → cleared table_numbers t₁ ≡ cleared table_numbers t₂
@@ -98,20 +102,20 @@ unfolding cleared
 open_one t t₁ t₂ p q = rw (p.long, q.long, p.later, q.later) refl
 
 -- rows counted and the table with them; or a refusal, its place and the table that it leaves, its first 3,072 numbers taken for zeros
-abbrev pub left_of : Counted → List ℕ → Counted × List ℕ
-left_of (counted.Rows n) t = (counted.Rows n, t)
-left_of (counted.Bad r q) t = (counted.Bad r q, cleared table_numbers t)
+abbrev pub left_of : Read ℕ → List ℕ → Read ℕ × List ℕ
+left_of (Ok n) t = (Ok n, t)
+left_of (Err f) t = (Err f, cleared table_numbers t)
 
-counted_one : {X : Type 0} (rows : X → List Row) (m n : ℕ) (t : List ℕ) (o : Contents X Fault) (r r' : Counted) (t₁ t₂ : List ℕ) → CountedInto rows m n t o r t₁ → CountedInto rows m n t o r' t₂ → left_of r t₁ ≡ left_of r' t₂
+counted_one : {X : Type 0} (rows : X → List Row) (m n : ℕ) (t : List ℕ) (o : Contents X Fault) (r r' : Read ℕ) (t₁ t₂ : List ℕ) → CountedInto rows m n t o r t₁ → CountedInto rows m n t o r' t₂ → left_of r t₁ ≡ left_of r' t₂
 counted_one rows m n t (is x) r r' t₁ t₂ p q = rw (p.0, q.0, p.1, q.1) refl
 counted_one rows m n t (isnt f) r r' t₁ t₂ p q = rw (p.0, q.0, open_one t t₁ t₂ p.2 q.2) refl
 
 -- the same of one choice, which says its end too
-abbrev pub left_in : Chosen → List ℕ → Chosen × List ℕ
-left_in (chosen.Rows n end) t = (chosen.Rows n end, t)
-left_in (chosen.Bad r q) t = (chosen.Bad r q, cleared table_numbers t)
+abbrev pub left_in : Taken ℕ → List ℕ → Taken ℕ × List ℕ
+left_in (Ok (n, end)) t = (Ok (n, end), t)
+left_in (Err f) t = (Err f, cleared table_numbers t)
 
-chosen_one : (a : ℕ) (s : List ℕ) (n : ℕ) (t : List ℕ) (o : Part Choice Fault) (r r' : Chosen) (t₁ t₂ : List ℕ) → ChosenInto a s n t o r t₁ → ChosenInto a s n t o r' t₂ → left_in r t₁ ≡ left_in r' t₂
+chosen_one : (a : ℕ) (s : List ℕ) (n : ℕ) (t : List ℕ) (o : Part Choice Fault) (r r' : Taken ℕ) (t₁ t₂ : List ℕ) → ChosenInto a s n t o r t₁ → ChosenInto a s n t o r' t₂ → left_in r t₁ ≡ left_in r' t₂
 chosen_one a s n t (part c rest) r r' t₁ t₂ p q = rw (p.answer, q.answer, p.table, q.table, end_one s p.end q.end p.inside q.inside (sym p.over ∙ q.over)) refl
 chosen_one a s n t (nopart f) r r' t₁ t₂ p q = rw (p.0, q.0, open_one t t₁ t₂ p.2 q.2) refl
 
@@ -135,37 +139,45 @@ elements_read_one_reply κs a r r' s s' p q = counted_one (listed_rows (space_nu
 pub identifiers_read_one_reply : OneReply identifiers_read.Post (λ κs r s. left_of r s.1.1.0.now)
 identifiers_read_one_reply κs a r r' s s' p q = counted_one identifiers_rows (length a.0.now) a.1.0 a.1.1.0.now (read_identifiers a.1.0 a.0.now) r r' s.1.1.0.now s'.1.1.0.now p q
 
--- ids::as_row
-pub as_row_one_reply : OneReply as_row.Post (λ κs r s. r)
-as_row_one_reply κs a r r' s s' p q = one_reply p q
+-- ids::row
+pub row_one_reply : (n : ℕ) (f : Fits w64 n) → OneReply (row.Post n f) (λ κs r s. r)
+row_one_reply n f κs a r r' s s' p q = one_reply p q
 
--- ids::rdi_row
-pub rdi_row_one_reply : OneReply rdi_row.Post (λ κs r s. r)
-rdi_row_one_reply κs a r r' s s' p q = one_reply p q
+-- of AS numbers
+pub as_row_one_reply : OneReply (row.Post as_numbers as_fits) (λ κs r s. r)
+as_row_one_reply = row_one_reply as_numbers as_fits
 
--- ids::as_range
-pub as_range_one_reply : OneReply as_range.Post (λ κs r s. r)
-as_range_one_reply κs a r r' s s' p q = one_reply p q
+-- of routing domain identifiers
+pub rdi_row_one_reply : OneReply (row.Post routing_domains rdi_fits) (λ κs r s. r)
+rdi_row_one_reply = row_one_reply routing_domains rdi_fits
 
--- ids::rdi_range
-pub rdi_range_one_reply : OneReply rdi_range.Post (λ κs r s. r)
-rdi_range_one_reply κs a r r' s s' p q = one_reply p q
+-- ids::range
+pub range_one_reply : (n : ℕ) (f : Fits w64 n) → OneReply (range.Post n f) (λ κs r s. r)
+range_one_reply n f κs a r r' s s' p q = one_reply p q
 
--- ids::as_element
-pub as_element_one_reply : OneReply (Typed (of_as_element.r).is.Ok as_element.Post) (λ κs r s. r)
-as_element_one_reply κs a r r' s s' p q = found_one a.0.now as_numbers r r' (fit κs r p.0) (fit κs r' q.0) (one_reply p.1.0 q.1.0) p.1.1 q.1.1
+-- of AS numbers
+pub as_range_one_reply : OneReply (range.Post as_numbers as_fits) (λ κs r s. r)
+as_range_one_reply = range_one_reply as_numbers as_fits
 
--- ids::rdi_element
-pub rdi_element_one_reply : OneReply (Typed (of_rdi_element.r).is.Ok rdi_element.Post) (λ κs r s. r)
-rdi_element_one_reply κs a r r' s s' p q = found_one a.0.now routing_domains r r' (fit κs r p.0) (fit κs r' q.0) (one_reply p.1.0 q.1.0) p.1.1 q.1.1
+-- of routing domain identifiers
+pub rdi_range_one_reply : OneReply (range.Post routing_domains rdi_fits) (λ κs r s. r)
+rdi_range_one_reply = range_one_reply routing_domains rdi_fits
+
+-- ids::element
+pub id_element_one_reply : (n : ℕ) (f : Fits w64 n) → OneReply (Typed (of_id.r n f).is.Ok (id_element.Post n f)) (λ κs r s. r)
+id_element_one_reply n f κs a r r' s s' p q = found_one a.0.now n r r' (fit_id n f κs r p.0) (fit_id n f κs r' q.0) (one_reply p.1.0 q.1.0) p.1.1 q.1.1
+
+-- of AS numbers
+pub as_element_one_reply : OneReply (Typed (of_id.r as_numbers as_fits).is.Ok (id_element.Post as_numbers as_fits)) (λ κs r s. r)
+as_element_one_reply = id_element_one_reply as_numbers as_fits
+
+-- of routing domain identifiers
+pub rdi_element_one_reply : OneReply (Typed (of_id.r routing_domains rdi_fits).is.Ok (id_element.Post routing_domains rdi_fits)) (λ κs r s. r)
+rdi_element_one_reply = id_element_one_reply routing_domains rdi_fits
 
 -- briefs::is_brief
 pub is_brief_one_reply : OneReply is_brief.Post (λ κs r s. r)
 is_brief_one_reply κs a r r' s s' p q = one_reply p q
-
--- briefs::wide
-pub wide_one_reply : OneReply wide.Post (λ κs r s. r)
-wide_one_reply κs a r r' s s' p q = one_reply p.0 q.0
 
 -- parts::has_octets
 pub has_octets_one_reply : OneReply has_octets.Post (λ κs r s. r)

@@ -1,4 +1,3 @@
-use Prim.Native.Nat.{◌-◌}
 use Rattle.number.proofs.Spelling.{Spelled}
 use Rattle.der.proofs.Padding.{pad}
 use Rattle.der.proofs.bits.padded.Given as goal

@@ -1,5 +1,4 @@
 -- `der::heads::length_of` meets its contract. Assumes nothing.
-use Rattle.std.proofs.Common.{rules}
 use Rattle.der.specs.Opening.{length_of}
 use Rattle.number.proofs.Picks.{picks, via}
 use Rattle.der.proofs.Openings.{fitted_as, pairs}

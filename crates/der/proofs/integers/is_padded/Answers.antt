@@ -5,7 +5,7 @@ use borrow.Author.Tests.{lt-ltb, le-ltb, ltb-true}
 use Prim.Native.Nat.{◌≤◌}
 use native.Mathlib.Omega.{arith}
 use lib.ListN.{length, get_or}
-use lib.Dec.{ltb, eqb}
+use lib.Dec.{eqb}
 use Rattle.der.specs.Integer.{padded}
 use Rattle.der.proofs.integers.is_padded.Goals as goal
 use Rattle.der.proofs.integers.is_padded.Goals.{then-contents-gt1, else-contents-gt1}

@@ -1,5 +1,4 @@
 -- `der::integers::read` meets its contract. Assumes nothing.
-use Rattle.std.proofs.Common.{rules}
 use Rattle.number.proofs.Picks.{picks, via}
 use Rattle.der.specs.Integer.{integer_of}
 use Rattle.der.proofs.Beginnings.{spelt, is_as}

@@ -1,47 +1,70 @@
 -- `values::blocks::families` meets its contract. Assumes nothing.
-use borrow.Author.Rules.{rules}
+use Rattle.std.proofs.Common.{rules}
+use Rattle.std.specs.Prelude.{◌≡◌, Ok, Err}
+use Rattle.std.specs.Prelude.{◌-◌, ◌+◌, length}
+use Rattle.values.proofs.Exits.{handed, shifted, kept, all_fit}
 use Rattle.values.proofs.Joins.{tag_order, tag_inside}
-use Rattle.values.proofs.FamilyLoop.{gather_start, gather_bad, gather_isnt, gather_turn, gather_end, head_fits, place_fits, next_fits, gather_less}
+use Rattle.values.proofs.FamilyLoop.{gather_start, gather_bad, gather_isnt, gather_turn, gather_end, head_fits, place_fits, gather_less}
 use Rattle.values.proofs.blocks.families.Goals as goal
 
 pub loop-rest-init : goal.loop-rest-init
 loop-rest-init c = search (gather_start, rules)
 
-pub returns-in-Bad : goal.returns-in-Bad
-returns-in-Bad c = search (gather_bad, rules)
+pub returns-in-Err : goal.returns-in-Err
+returns-in-Err c = rw c.at.ensures (search (gather_bad, rules))
+
+pub overflow_add-at : goal.overflow_add-at
+overflow_add-at c =
+    let o : c.open.result ≡ Ok (c.in-Ok.opening.0, c.in-Ok.opening.1) = c.in-Ok.is in
+    search (head_fits, rules)
 
 pub slice_bounds-family_of-count : goal.slice_bounds-family_of-count
-slice_bounds-family_of-count c = search (tag_order, rules)
+slice_bounds-family_of-count c =
+    let o : c.open.result ≡ Ok (c.in-Ok.opening.0, c.in-Ok.opening.1) = c.in-Ok.is in
+    search (tag_order, rules)
 
 pub slice_bounds-family_of-start : goal.slice_bounds-family_of-start
-slice_bounds-family_of-start c = search (tag_order, rules)
+slice_bounds-family_of-start c =
+    let o : c.open.result ≡ Ok (c.in-Ok.opening.0, c.in-Ok.opening.1) = c.in-Ok.is in
+    search (tag_order, rules)
 
 pub slice_bounds-family_of-end : goal.slice_bounds-family_of-end
-slice_bounds-family_of-end c = search (tag_inside, rules)
+slice_bounds-family_of-end c =
+    let o : c.open.result ≡ Ok (c.in-Ok.opening.0, c.in-Ok.opening.1) = c.in-Ok.is in
+    search (tag_inside, rules)
 
-pub overflow_add-result : goal.overflow_add-result
-overflow_add-result c = search (head_fits, rules)
+pub after-requires : goal.after-requires
+after-requires c =
+    let o : c.open.result ≡ Ok (c.in-Ok.opening.0, c.in-Ok.opening.1) = c.in-Ok.is in
+    all_fit _ c.family_of.result (λ f e. search (place_fits, rules))
 
-pub overflow_add-result-in-Bad-family_of : goal.overflow_add-result-in-Bad-family_of
-overflow_add-result-in-Bad-family_of c = search (place_fits, rules)
-
-pub returns-in-Bad-family_of : goal.returns-in-Bad-family_of
-returns-in-Bad-family_of c = search (gather_isnt, rules)
-
-pub overflow_add-least : goal.overflow_add-least
-overflow_add-least c = search (next_fits, rules)
+pub returns-in_err-space : goal.returns-in_err-space
+returns-in_err-space c =
+    let o : c.open.result ≡ Ok (c.in-Ok.opening.0, c.in-Ok.opening.1) = c.in-Ok.is in
+    let p = shifted (length c.args.s.now - length c.loop-rest.rest.now + c.in-Ok.opening.0) c.family_of.result c.in_err-space.ensures in
+    let e : c.family_of.result ≡ Err p.0 = p.1 in
+    rw (handed _ c.from_residual.ensures.1, p.2) (search (gather_isnt, rules))
 
 pub slice_bounds-rest-count : goal.slice_bounds-rest-count
-slice_bounds-rest-count c = search (tag_inside, rules)
+slice_bounds-rest-count c =
+    let o : c.open.result ≡ Ok (c.in-Ok.opening.0, c.in-Ok.opening.1) = c.in-Ok.is in
+    search (tag_inside, rules)
 
 pub slice_bounds-rest-start : goal.slice_bounds-rest-start
-slice_bounds-rest-start c = search (tag_inside, rules)
+slice_bounds-rest-start c =
+    let o : c.open.result ≡ Ok (c.in-Ok.opening.0, c.in-Ok.opening.1) = c.in-Ok.is in
+    search (tag_inside, rules)
 
 pub loop-rest-smaller : goal.loop-rest-smaller
-loop-rest-smaller c = search (gather_less, rules)
+loop-rest-smaller c =
+    let o : c.open.result ≡ Ok (c.in-Ok.opening.0, c.in-Ok.opening.1) = c.in-Ok.is in
+    search (gather_less, rules)
 
 pub loop-rest-preserved : goal.loop-rest-preserved
-loop-rest-preserved c = search (gather_turn, rules)
+loop-rest-preserved c =
+    let o : c.open.result ≡ Ok (c.in-Ok.opening.0, c.in-Ok.opening.1) = c.in-Ok.is in
+    let e : c.family_of.result ≡ Ok _ = kept (length c.args.s.now - length c.loop-rest.rest.now + c.in-Ok.opening.0) c.family_of.result c.in_ok-space.ensures in
+    search (gather_turn, rules)
 
 pub returns : goal.returns
 returns c = search (gather_end, rules)

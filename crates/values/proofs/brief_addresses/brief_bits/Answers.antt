@@ -1,19 +1,13 @@
 -- `values::brief_addresses::brief_bits` meets its contract. Assumes nothing.
-use borrow.Author.Rules.{rules}
+use Rattle.std.proofs.Common.{rules}
 use borrow.Author.Tests.{not-false}
 use Rattle.number.specs.Octets.{Octets}
 use Rattle.values.proofs.BriefReads.{brief_long, brief_second, brief_third}
-use Rattle.values.proofs.BitReads.{none_taken, string_some, string_over, string_count, string_unit, string_divides, string_took}
+use Rattle.values.proofs.BitReads.{string_some, string_over, string_count, string_unit, string_divides, string_took}
 use Rattle.values.proofs.brief_addresses.brief_bits.Goals as goal
-
-pub returns-then-not-is_brief : goal.returns-then-not-is_brief
-returns-then-not-is_brief c = search (none_taken, rules)
 
 pub bounds-s-2 : goal.bounds-s-2
 bounds-s-2 c = search (brief_third, not-false, rules)
-
-pub returns-then-s-gt7 : goal.returns-then-s-gt7
-returns-then-s-gt7 c = search (none_taken, rules)
 
 pub bounds-s-1 : goal.bounds-s-1
 bounds-s-1 c = search (brief_second, not-false, rules)
@@ -27,9 +21,6 @@ bounds-s-2-2 c = search (brief_third, not-false, rules)
 pub overflow_sub-count : goal.overflow_sub-count
 overflow_sub-count c = search (string_over, not-false, rules)
 
-pub returns-then-bits-count : goal.returns-then-bits-count
-returns-then-bits-count c = search (none_taken, rules)
-
 pub slice_bounds-spelled-end : goal.slice_bounds-spelled-end
 slice_bounds-spelled-end c = search (brief_long, not-false, rules)
 
@@ -41,9 +32,6 @@ overflow_shl-count c = search (string_unit, not-false, rules)
 
 pub nonzero_rem-bits : goal.nonzero_rem-bits
 nonzero_rem-bits c = search (string_divides, not-false, rules)
-
-pub returns-then-bits-count-ne0 : goal.returns-then-bits-count-ne0
-returns-then-bits-count-ne0 c = search (none_taken, rules)
 
 pub returns : goal.returns
 returns c = let o : Octets c.args.s.now = unfold Octets in (λ i. (c.type_inv.s i).fits) in search (string_took, not-false, rules)

@@ -1,9 +1,14 @@
 -- `values::choices::inherit_at` meets its contract. Assumes nothing.
-use borrow.Author.Rules.{rules}
+use Rattle.std.proofs.Common.{rules}
 use borrow.Author.Tests.{not-true, not-false}
+use Rattle.values.specs.Faults.{at}
+use Rattle.values.proofs.Exits.{handed}
 use Rattle.values.proofs.Joins.{tag_order, tag_inside}
 use Rattle.values.proofs.Choosing.{inherit_bad, inherit_contents, inherit_full, inherit_is}
 use Rattle.values.proofs.choices.inherit_at.Goals as goal
+
+pub returns-in_err-k : goal.returns-in_err-k
+returns-in_err-k c = rw (handed (at 0 _) c.from_residual.ensures.1) (search (inherit_bad, rules))
 
 pub slice_bounds-null-count : goal.slice_bounds-null-count
 slice_bounds-null-count c = search (tag_order, rules)
@@ -15,13 +20,10 @@ pub slice_bounds-null-end : goal.slice_bounds-null-end
 slice_bounds-null-end c = search (tag_inside, rules)
 
 pub returns-then-not-null : goal.returns-then-not-null
-returns-then-not-null c = search (inherit_contents, not-true, rules)
+returns-then-not-null c = rw c.from.ensures (search (inherit_contents, not-true, rules))
 
 pub returns-then-count-ge-ROWS : goal.returns-then-count-ge-ROWS
-returns-then-count-ge-ROWS c = search (inherit_full, not-false, rules)
+returns-then-count-ge-ROWS c = rw c.from-then-count-ge-ROWS.ensures (search (inherit_full, not-false, rules))
 
-pub returns-in-Bad : goal.returns-in-Bad
-returns-in-Bad c = search (inherit_bad, rules)
-
-pub returns-else-count-ge-ROWS : goal.returns-else-count-ge-ROWS
-returns-else-count-ge-ROWS c = inherit_is _ _ _ _ _ c.open.ensures _ _ c.in-Is.is _ c.null.ensures _ _ c.if-not-null.false c.if-count-ge-ROWS.false c.inherit_row.ensures c.put.ensures
+pub returns : goal.returns
+returns c = inherit_is _ _ _ _ _ c.open.ensures _ _ c.in_ok-k.was _ c.null.ensures _ _ c.if-not-null.false c.if-count-ge-ROWS.false c.inherit_row.ensures c.put.ensures

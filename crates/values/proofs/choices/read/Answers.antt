@@ -1,14 +1,16 @@
 -- `values::choices::read` meets its contract. Assumes nothing.
-use borrow.Author.Rules.{rules}
-use native.Mathlib.Omega.{arith}
+use Rattle.std.proofs.Common.{rules, arith}
 use Rattle.der.specs.Tags.{NULL}
 use Rattle.values.proofs.Choosing.{choice_null, choice_list}
 use Rattle.values.proofs.Joins.{no_tag}
-use Rattle.values.proofs.choices.read.Goals.{then-s-gt0+else-s-eq-NULL, else-s-gt0}
+use Rattle.values.proofs.choices.read.Goals.{else-s-gt0-via-then-s-gt0+else-s-eq-NULL, else-s-gt0-via-else-s-gt0}
 use Rattle.values.proofs.choices.read.Goals as goal
 
 pub returns-then-s-eq-NULL : goal.returns-then-s-eq-NULL
 returns-then-s-eq-NULL c = search (choice_null, rules)
 
 pub returns : goal.returns
-returns c = choice_list _ _ _ _ _ _ (elim c.if-s-gt0.branch [ then-s-gt0+else-s-eq-NULL w ↦ w.if-s-eq-NULL.false | else-s-gt0 w ↦ no_tag c.args.s.now NULL (omega arith) w.if-s-gt0.false ]) c.list_at.ensures
+returns c =
+    choice_list _ _ _ _ _ _
+    (elim c.else-s-gt0.branch [ else-s-gt0-via-then-s-gt0+else-s-eq-NULL w ↦ w.if-s-eq-NULL.false | else-s-gt0-via-else-s-gt0 w ↦ no_tag c.args.s.now NULL (omega arith) w.if-s-gt0.false ])
+    c.list_at.ensures

@@ -1,14 +1,10 @@
 -- `values::ids::brief_number` meets its contract. Assumes nothing.
-use borrow.Author.Rules.{rules}
+use Rattle.std.proofs.Common.{rules}
 use borrow.Author.Tests.{not-false}
-use native.Mathlib.Omega.{arith}
 use Rattle.number.specs.Octets.{Octets}
 use Rattle.values.proofs.BriefReads.{brief_second, brief_ten}
 use Rattle.values.proofs.IdReads.{number_within, number_some, number_taken}
 use Rattle.values.proofs.ids.brief_number.Goals as goal
-
-pub returns-then-not-is_brief : goal.returns-then-not-is_brief
-returns-then-not-is_brief c = λ h. absurd (omega (arith, c.not_brief.ensures))
 
 pub bounds-s-1 : goal.bounds-s-1
 bounds-s-1 c = search (brief_second, not-false, rules)
@@ -21,12 +17,6 @@ overflow_sub-x c = search (number_within, not-false, rules)
 
 pub overflow_shr-x : goal.overflow_shr-x
 overflow_shr-x c = search (number_some, not-false, rules)
-
-pub returns-then-x-gt4294967295 : goal.returns-then-x-gt4294967295
-returns-then-x-gt4294967295 c = λ h. absurd (omega (arith, c.not_brief-then-x-gt4294967295.ensures))
-
-pub returns-then-octets : goal.returns-then-octets
-returns-then-octets c = λ h. absurd (omega (arith, c.not_brief-then-octets.ensures))
 
 pub returns : goal.returns
 returns c = let o : Octets c.args.s.now = unfold Octets in (λ i. (c.type_inv.s i).fits) in search (number_taken, not-false, rules)

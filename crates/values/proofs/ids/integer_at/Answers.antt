@@ -1,8 +1,6 @@
 -- `values::ids::integer_at` meets its contract. Assumes nothing.
-use borrow.Author.Rules.{rules}
-use Rattle.values.proofs.Joins.{clauses, took}
 use Rattle.values.proofs.IdReads.{brief_took}
 use Rattle.values.proofs.ids.integer_at.Goals as goal
 
-pub returns-then-short-gt0 : goal.returns-then-short-gt0
-returns-then-short-gt0 c = clauses (λ a b. record { seen = a; inside = b }) (took (brief_took _ c.brief_number-short.ensures (search rules)))
+pub returns-in-Some-clause-seen : goal.returns-in-Some-clause-seen
+returns-in-Some-clause-seen c = (brief_took c.args.s.now c.in-Some.taken.0 c.in-Some.taken.1 c.in-Some.ensures).told
