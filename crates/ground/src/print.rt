@@ -2,7 +2,6 @@
 use crate::edges::{Edge, Side};
 use number::halves;
 use number::halves::{Halves, Width};
-use number::shape::Shape;
 
 pub fn end(rt: &impl Print) {
     let _ = rt.write_all(b"\n");
@@ -64,13 +63,14 @@ pub fn wide(rt: &impl Print, width: Width) {
     count(rt, halves::bits(width));
 }
 
-pub fn shaped(rt: &impl Print, shape: Shape) {
+// The number of bits of a prefix, or that there is none.
+pub fn shaped(rt: &impl Print, shape: Option<u32>) {
     match shape {
-        Shape::Prefix(n) => {
+        Some(n) => {
             let _ = rt.write_all(b" prefix");
             count(rt, n);
         }
-        Shape::Range => {
+        None => {
             let _ = rt.write_all(b" range");
         }
     }

@@ -5,11 +5,11 @@ use Prim.Native.Nat.{ℕ, ◌+◌, ◌-◌, ◌^◌, ◌≤◌, min}
 use native.Mathlib.Omega.{arith}
 use lib.Dec.{eqb}
 use lib.Pow.{split}
+use Rattle.std.specs.Prelude.{Some, None}
 use Rattle.number.specs.Halves.{whole, halves}
 use Rattle.number.specs.Kept.{run, one_filled}
 use Rattle.number.specs.Shape.{free, is_prefix, shape_of}
 use Rattle.number.specs.declared.halves.Halves.{Halves}
-use Rattle.number.specs.declared.shape.Shape.TheVariants.{Prefix, Range}
 use Rattle.number.proofs.TwoHalves.{whole_halves}
 use Rattle.number.proofs.laws.Prefix.{free_le, free_zeros}
 
@@ -48,13 +48,13 @@ module _ {from to : Halves} {s : Bool} {f a : ℕ} (w x y : ℕ) (p : from ≡ h
   told = rw (ap whole p ∙ whole_halves x, ap whole q ∙ whole_halves y) at (test_is w (whole from) (whole to) b h t)
 
   -- a prefix, by the bits that are free
-  pub tell_prefix : s ≡ true → Prefix (a - f) ≡ shape_of w x y
+  pub tell_prefix : s ≡ true → Some (a - f) ≡ shape_of w x y
   unfolding shape_of
   tell_prefix v =
       let g : f ≡ free w x y = rw (ap whole p ∙ whole_halves x, ap whole q ∙ whole_halves y) at h in
       rw (sym told ∙ v, b, g)
 
   -- a range
-  pub tell_range : s ≡ false → Range ≡ shape_of w x y
+  pub tell_range : s ≡ false → None ≡ shape_of w x y
   unfolding shape_of
   tell_range v = rw (sym told ∙ v)

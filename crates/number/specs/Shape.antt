@@ -1,9 +1,7 @@
 -- "A range that is a prefix must be written as a prefix."
-use Rattle.std.specs.Prelude.{◌≡◌, Bool, ℕ, ◌+◌, ◌-◌, ◌%◌, ◌^◌, ◌≤◌, ◌<◌, min, eqb}
+use Rattle.std.specs.Prelude.{◌≡◌, Bool, Option, Some, None, ℕ, ◌+◌, ◌-◌, ◌%◌, ◌^◌, ◌≤◌, ◌<◌, min, eqb}
 use Rattle.number.specs.Tests.{pick}
 use Rattle.number.specs.Kept.{run}
-use Rattle.number.specs.declared.shape.Shape.{Shape}
-use Rattle.number.specs.declared.shape.Shape.TheVariants.{Prefix, Range}
 
 -- the numbers from low to high are those of w bits whose first n bits are low's
 pub record IsPrefix (w n low high : ℕ) : Type 0 where
@@ -19,5 +17,6 @@ free w low high = min (run 0 w low) (run 1 w high)
 unfoldable pub is_prefix : ℕ → ℕ → ℕ → Bool
 is_prefix w low high = eqb high (low + (2 ^ free w low high - 1))
 
-unfoldable pub shape_of : ℕ → ℕ → ℕ → Shape
-shape_of w low high = pick (is_prefix w low high) (Prefix (w - free w low high)) Range
+-- a prefix's number of bits, or none where the numbers are a range
+unfoldable pub shape_of : ℕ → ℕ → ℕ → Option ℕ
+shape_of w low high = pick (is_prefix w low high) (Some (w - free w low high)) None

@@ -9,13 +9,6 @@ use crate::address::Address;
 use crate::halves::{Halves, Width};
 use crate::{address, halves, kept};
 
-// A prefix has its number of bits.
-#[derive(Clone, Copy)]
-pub enum Shape {
-    Prefix(u32),
-    Range,
-}
-
 // How many bits at the end run through all their values from low to high, if those are a prefix.
 fn free(width: Width, low: Halves, high: Halves) -> u32
     ensures { result ≡ spec.free (bits_of width) (whole low) (whole high) }
@@ -38,8 +31,8 @@ pub fn is_prefix(width: Width, low: Halves, high: Halves) -> bool
     is_filled(width, count, low, high)
 }
 
-// Returns the prefix that the addresses from low to high are, or that they are none. Both are read at the width of low.
-pub fn tell(low: Address, high: Address) -> Shape
+// Returns the number of bits of the prefix that the addresses from low to high are, or None where they are a range. Both are read at the width of low.
+pub fn tell(low: Address, high: Address) -> Option<u32>
     ensures { result ≡ spec.shape_of (bits_of low.width) (number_of low) (number_of high) }
 {
     let width = low.width;
@@ -47,7 +40,8 @@ pub fn tell(low: Address, high: Address) -> Shape
     let to = address::to_halves(high);
     let count = halves::bits(width) - free(width, from, to);
     if is_filled(width, count, from, to) {
-        return Shape::Prefix(count);
+        Some(count)
+    } else {
+        None
     }
-    Shape::Range
 }

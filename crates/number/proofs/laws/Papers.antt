@@ -1,19 +1,18 @@
 -- An answer in this paper's numbers says the answer: no two have the same numbers. Theorems. Assumes nothing.
 --     apart         the general law: a definition from which the answer can be had again tells the answers apart
---     NAME-apart    for each enum of this crate but Refusal, which has laws of its own (Refusals)
+--     NAME_apart    for the width, and for the shape of two addresses. Refusal has laws of its own (Refusals)
 use mathlib.Core.Path.{◌≡◌, refl, sym, ap, ◌∙◌}
 use mathlib.Core.List.{List}
 use Prim.Native.Nat.{ℕ, ◌+◌}
 use lib.ListN.{length, get_or}
 use lib.Dec.{eqb}
+use Rattle.std.specs.Prelude.{Option, Some, None}
 use Rattle.number.specs.Tests.{pick}
 use Rattle.number.specs.Halves.{bits}
 use Rattle.number.specs.Papers.{shape_paper}
 use Rattle.number.specs.declared.halves.Halves.{Halves}
 use Rattle.number.specs.declared.halves.Width.{Width}
 use Rattle.number.specs.declared.halves.Width.TheVariants as width
-use Rattle.number.specs.declared.shape.Shape.{Shape}
-use Rattle.number.specs.declared.shape.Shape.TheVariants as shape
 
 pub apart : {A N : Type 0} (paper : A → N) (back : N → A) → ((x : A) → back (paper x) ≡ x) → (x y : A) → paper x ≡ paper y → x ≡ y
 apart paper back again x y e = sym (again x) ∙ ap back e ∙ again y
@@ -25,5 +24,5 @@ halves_at k l = record { upper = get_or l k 0; lower = get_or l (k + 1) 0 }
 pub width_apart : (x y : Width) → bits x ≡ bits y → x ≡ y
 width_apart = apart bits (λ n. pick (eqb n (bits width.Bits32)) width.Bits32 width.Bits128) (elim [ width.Bits32 ↦ refl | width.Bits128 ↦ refl ])
 
-pub shape_apart : (x y : Shape) → shape_paper x ≡ shape_paper y → x ≡ y
-shape_apart = apart shape_paper (λ l. pick (eqb (length l) 1) shape.Range (shape.Prefix (get_or l 1 0))) (elim [ shape.Prefix n ↦ refl | shape.Range ↦ refl ])
+pub shape_apart : (x y : Option ℕ) → shape_paper x ≡ shape_paper y → x ≡ y
+shape_apart = apart shape_paper (λ l. pick (eqb (length l) 1) None (Some (get_or l 1 0))) (elim [ Some n ↦ refl | None ↦ refl ])

@@ -1,5 +1,5 @@
 -- Prefixes: which numbers from low to high are one, and how it is told. Theorems. Assumes nothing.
---     prefix_told, told_prefix     `shape_of` says `Prefix n` exactly of a prefix of n bits
+--     prefix_told, told_prefix     `shape_of` says `Some n` exactly of a prefix of n bits
 --     prefix_once     a prefix has one number of bits.      prefix_single     a single number is a prefix
 use mathlib.Core.Path.{◌≡◌, sym, ap, ◌∙◌}
 use mathlib.Core.Logic.{◌⊎◌, inl, inr}
@@ -9,9 +9,9 @@ use native.Mathlib.Nat.{mod-one}
 use lib.Dec.{eqb}
 use lib.Pow.{pow_pos, split, low as low_part, ones_lt}
 use borrow.Author.Tests.{eq-eqb, eqb-true}
+use Rattle.std.specs.Prelude.{Some, None}
 use Rattle.number.specs.Kept.{run}
 use Rattle.number.specs.Shape.{IsPrefix, free, is_prefix, shape_of}
-use Rattle.number.specs.declared.shape.Shape.TheVariants.{Prefix, Range}
 use Rattle.number.proofs.Picks.{below, pick_is}
 use Rattle.number.proofs.laws.Runs.{run_le, run_to, run_from}
 
@@ -55,7 +55,7 @@ module _ (w low high : ℕ) where
       go (inr s) = omega (arith, zeros, ones)
 
 -- a prefix is told to be one
-pub prefix_told : (w n low high : ℕ) → IsPrefix w n low high → shape_of w low high ≡ Prefix n
+pub prefix_told : (w n low high : ℕ) → IsPrefix w n low high → shape_of w low high ≡ Some n
 unfolding shape_of is_prefix
 prefix_told w n low high p =
     let e : w - (w - n) ≡ n = omega (arith, p.fits) in
@@ -66,14 +66,14 @@ pub prefix_once : (w n m low high : ℕ) → IsPrefix w n low high → IsPrefix 
 prefix_once w n m low high p q = let e = prefix_told w n low high p in let f = prefix_told w m low high q in cc
 
 -- a range is no prefix
-no_prefix : (n : ℕ) → Range ≡ Prefix n → ⊥
+no_prefix : (n : ℕ) → None ≡ Some n → ⊥
 no_prefix n e = let z : ◌≡◌ {A = ℕ} 0 1 = cc in omega arith
 
 -- what is told to be a prefix is one
-pub told_prefix : (w n low high : ℕ) → low < 2 ^ w → shape_of w low high ≡ Prefix n → IsPrefix w n low high
+pub told_prefix : (w n low high : ℕ) → low < 2 ^ w → shape_of w low high ≡ Some n → IsPrefix w n low high
 unfolding shape_of is_prefix
 told_prefix w n low high b e =
-    let t = pick_is (eqb high (low + (2 ^ free w low high - 1))) (Prefix n) (Prefix (w - free w low high)) Range (no_prefix n) e in
+    let t = pick_is (eqb high (low + (2 ^ free w low high - 1))) (Some n) (Some (w - free w low high)) None (no_prefix n) e in
     let s = t.1 in
     let k : w - free w low high ≡ n = cc in
     let f : w - n ≡ free w low high = omega (arith, free_le w low high) in
