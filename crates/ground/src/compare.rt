@@ -10,9 +10,9 @@ fn order(rt: &impl Print, a: Edge, b: Edge) {
     let _ = rt.write_all(b"order");
     print::named(rt, a);
     print::named(rt, b);
-    print::flag(rt, halves::same(x, y));
-    print::flag(rt, halves::below(x, y));
-    print::flag(rt, halves::at_most(x, y));
+    print::flag(rt, x == y);
+    print::flag(rt, x < y);
+    print::flag(rt, x <= y);
     print::flag(rt, halves::past(x, y));
     print::end(rt);
 }

@@ -2,26 +2,27 @@
 --     zeros_upper, zeros_lower     the zeros at the end of two words of 64 bits, by each word's count
 --     ones_flipped     the ones, by the zeros of both words complemented
 --     at_width     the run at a width of 32 or 128 bits, by the run in 128
---     min_kept; max_kept, max_none, max_upper, max_lower     how many bits are kept
+--     min_kept; max_none, max_kept, max_lost     how many bits are kept
 use mathlib.Core.Path.{◌≡◌, sym, ap, ◌∙◌}
 use mathlib.Core.Bool.{Bool, true, false}
 use Prim.Native.Nat.{ℕ, ◌+◌, ◌-◌, ◌*◌, ◌/◌, ◌%◌, ◌^◌, ◌≤◌, ◌<◌, min}
 use native.Mathlib.Omega.{arith}
-use native.Mathlib.Nat.{zero-mul, zero-div}
+use native.Mathlib.Nat.{zero-mul, zero-div, mod-lt}
 use lib.Dec.{eqb}
 use lib.Count.{count_trailing_zeros, trailing_le}
-use lib.Pow.{shl-shr}
-use borrow.Author.Tests.{eq-eqb, ne_eqb}
+use lib.Pow.{pow_pos, shl-shr}
+use borrow.Author.Tests.{eq-eqb, ne_eqb, eqb-true, eqb-false}
 use Rattle.number.specs.Tests.{pick}
-use Rattle.number.specs.Halves.{halves, bits}
+use Rattle.number.specs.Halves.{whole, halves, bits}
 use Rattle.number.specs.Kept.{run, kept_min, lost_max, kept_max}
 use Rattle.number.specs.declared.halves.Halves.{Halves}
 use Rattle.number.specs.declared.halves.Width.{Width}
 use Rattle.number.specs.declared.halves.Width.TheVariants.{Bits32, Bits128}
 use Rattle.number.proofs.Runs.{run_zeros, run_flip, flip_words, run_words, run_min}
 use Rattle.number.proofs.Cuts.{bits_le}
-use Rattle.number.proofs.TwoHalves.{whole_below}
+use Rattle.number.proofs.TwoHalves.{whole_below, whole_halves}
 use Rattle.number.proofs.laws.Runs.{run_le}
+use Rattle.number.proofs.laws.Orders.{same, halves_same}
 
 -- a count of 128 bits fits
 pub count_fits : (u : ℕ) → 64 + count_trailing_zeros 64 u < 2 ^ 32
@@ -69,27 +70,25 @@ max_none {r} {a} w n e f h = rw (← e) (go (eqb (n / 2 ^ r) 0))
     go true = omega arith
     go false = omega arith
 
--- or r ones are cut off, and `left` is what is left
-module _ {r a : ℕ} (w n : ℕ) (left : Halves) (e : r ≡ run 1 w n) (f : a ≡ w) (g : left ≡ halves (n / 2 ^ r * 2 ^ r)) where
-  -- nothing is left: the first one is kept
-  pub max_kept : (r ≡ 0 → ⊥) → left.upper ≡ 0 → left.lower ≡ 0 → a - r + 1 ≡ kept_max w n
+-- or r ones are cut off, and `left` is what is left: `t` says whether that is nothing
+module _ {r a : ℕ} {t : Bool} (w n : ℕ) (left : Halves) (e : r ≡ run 1 w n) (f : a ≡ w) (g : left ≡ halves (n / 2 ^ r * 2 ^ r))
+    (h : t ≡ same left (record { upper = 0; lower = 0 })) where
+  left_test : t ≡ eqb (n / 2 ^ r * 2 ^ r) 0
+  left_test =
+      let b : left.lower < 2 ^ 64 = rw g (mod-lt (n / 2 ^ r * 2 ^ r) (pow_pos 64)) in
+      halves_same left _ b (omega arith) h ∙ ap (λ (x : ℕ). eqb x 0) (ap whole g ∙ whole_halves _)
+
+  -- the first one is kept
+  pub max_kept : (r ≡ 0 → ⊥) → t ≡ true → a - r + 1 ≡ kept_max w n
   unfolding kept_max lost_max
-  max_kept p x y =
-      let s : n / 2 ^ r * 2 ^ r / 2 ^ 64 ≡ 0 = rw g at x in
-      let t : n / 2 ^ r * 2 ^ r % 2 ^ 64 ≡ 0 = rw g at y in
-      let h : n / 2 ^ r * 2 ^ r ≡ 0 = omega arith in
-      let z : n / 2 ^ r ≡ 0 = sym (shl-shr (n / 2 ^ r) r) ∙ ap (λ (x : ℕ). x / 2 ^ r) h ∙ zero-div (2 ^ r) in
-      rw (← e, eq-eqb (n / 2 ^ r) 0 z) (omega (arith, run_le 1 w n))
+  max_kept p v =
+      let z : n / 2 ^ r * 2 ^ r ≡ 0 = eqb-true _ _ (sym left_test ∙ v) in
+      let y : n / 2 ^ r ≡ 0 = sym (shl-shr (n / 2 ^ r) r) ∙ ap (λ (x : ℕ). x / 2 ^ r) z ∙ zero-div (2 ^ r) in
+      rw (← e, eq-eqb (n / 2 ^ r) 0 y) (omega (arith, run_le 1 w n))
 
-  -- something is left: all ones are lost
-  some : (n / 2 ^ r ≡ 0 → ⊥) → a - r ≡ kept_max w n
+  -- or all ones are lost
+  pub max_lost : t ≡ false → a - r ≡ kept_max w n
   unfolding kept_max lost_max
-  some h = rw (← e, ne_eqb (n / 2 ^ r) 0 h) (omega arith)
-
-  -- it is in the upper word
-  pub max_upper : (left.upper ≡ 0 → ⊥) → a - r ≡ kept_max w n
-  max_upper h = some (λ z. h (rw (g, z, zero-mul)))
-
-  -- or in the lower one
-  pub max_lower : (left.lower ≡ 0 → ⊥) → a - r ≡ kept_max w n
-  max_lower h = some (λ z. h (rw (g, z, zero-mul)))
+  max_lost v =
+      let y : n / 2 ^ r ≡ 0 → ⊥ = (λ z. eqb-false _ _ (sym left_test ∙ v) (rw (z, zero-mul))) in
+      rw (← e, ne_eqb (n / 2 ^ r) 0 y) (omega arith)

@@ -5,4 +5,5 @@ pub mod Refusals
 pub mod Runs
 pub mod Kept
 pub mod Prefix
+pub mod Orders
 pub mod OneReply

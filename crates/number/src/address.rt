@@ -6,7 +6,7 @@ ghost use Rattle.number.specs.Address.{address_of, number_of};
 
 use crate::halves::{Halves, Width};
 
-#[derive(Clone, Copy)]
+#[derive(Clone, Copy, PartialEq, Eq)]
 pub struct Address {
     pub width: Width,
     pub octets: [u8; 16],

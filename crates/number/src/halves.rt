@@ -1,8 +1,9 @@
 // A number of up to 128 bits in its two halves of 64 bits, as a row of the table has it.
-ghost use Rattle.std.specs.Prelude.{◌≡◌, ◌+◌, ltb, leb, eqb};
+// `==`, `<` and `<=` compare the numbers (proofs/laws/Orders): the upper halves come first.
+ghost use Rattle.std.specs.Prelude.{◌≡◌, ◌+◌, ltb};
 ghost use Rattle.number.specs.Halves as spec;
 
-#[derive(Clone, Copy)]
+#[derive(Clone, Copy, PartialEq, Eq, PartialOrd, Ord)]
 pub struct Halves {
     pub upper: u64,
     pub lower: u64,
@@ -11,7 +12,7 @@ pub struct Halves {
 pub const ZERO: Halves = Halves { upper: 0, lower: 0 };
 
 // How many bits a number of a space has: "at most 32 or 128 bits" (document 01).
-#[derive(Clone, Copy)]
+#[derive(Clone, Copy, PartialEq, Eq)]
 pub enum Width {
     Bits32,
     Bits128,
@@ -24,41 +25,6 @@ pub fn bits(width: Width) -> u32
     match width {
         Width::Bits32 => 32,
         Width::Bits128 => 128,
-    }
-}
-
-// Returns whether a is the same number as b.
-pub fn same(a: Halves, b: Halves) -> bool
-    ensures { result ≡ eqb (spec.whole a) (spec.whole b) }
-{
-    if a.upper == b.upper {
-        a.lower == b.lower
-    } else {
-        false
-    }
-}
-
-// Returns whether a is less than b.
-pub fn below(a: Halves, b: Halves) -> bool
-    ensures { result ≡ ltb (spec.whole a) (spec.whole b) }
-{
-    if a.upper < b.upper {
-        return true;
-    }
-    if a.upper == b.upper {
-        return a.lower < b.lower;
-    }
-    false
-}
-
-// Returns whether a is at most b.
-pub fn at_most(a: Halves, b: Halves) -> bool
-    ensures { result ≡ leb (spec.whole a) (spec.whole b) }
-{
-    if a.upper == b.upper {
-        a.lower <= b.lower
-    } else {
-        a.upper < b.upper
     }
 }
 

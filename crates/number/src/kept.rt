@@ -139,9 +139,5 @@ pub fn kept_max(width: Width, n: Halves) -> u32
         return kept;
     }
     let left = cut(n, run);
-    if left.upper == 0 {
-        if left.lower == 0 { kept + 1 } else { kept }
-    } else {
-        kept
-    }
+    if left == ZERO { kept + 1 } else { kept }
 }

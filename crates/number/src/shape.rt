@@ -20,7 +20,7 @@ fn free(width: Width, low: Halves, high: Halves) -> u32
 fn is_filled(width: Width, count: u32, low: Halves, high: Halves) -> bool
     ensures { result ≡ eqb (whole high) (one_filled (bits_of width) count (whole low)) }
 {
-    halves::same(high, kept::one_filled(width, count, low))
+    high == kept::one_filled(width, count, low)
 }
 
 // Returns whether the numbers from low to high are a prefix.

@@ -13,7 +13,7 @@ pub const ROWS: usize = 512;
 
 pub const NUMBERS: usize = 3072;
 
-#[derive(Clone, Copy)]
+#[derive(Clone, Copy, PartialEq, Eq)]
 pub struct Row {
     pub space: u64,
     pub inherit: u64,

@@ -7,7 +7,7 @@ ghost use Rattle.table.specs.Tables as spec;
 use crate::rows::Row;
 use crate::{rows, spaces};
 use number::halves;
-use number::halves::{Halves, Width};
+use number::halves::{Halves, Width, ZERO};
 
 // Whether a number has at most the width's bits: "upper half 0 and lower half up to 4,294,967,295".
 fn fits(width: Width, n: Halves) -> bool
@@ -38,19 +38,11 @@ fn takes(kind: u64, own: u64) -> bool
 fn marked(row: Row) -> bool
     ensures { result ≡ spec.marked (seen row) }
 {
-    if row.inherit == 1 {
-        if halves::same(row.low, halves::ZERO) {
-            return halves::same(row.high, halves::ZERO);
-        }
-        return false;
+    match row.inherit {
+        0 => row.low <= row.high && fits(spaces::width(row.space), row.high),
+        1 => row.low == ZERO && row.high == ZERO,
+        _ => false,
     }
-    if row.inherit != 0 {
-        return false;
-    }
-    if halves::at_most(row.low, row.high) {
-        return fits(spaces::width(row.space), row.high);
-    }
-    false
 }
 
 // Whether a row may stand in a table of the kind, whatever stands before it.

@@ -1,15 +1,18 @@
 -- One reply: two replies that a function's promise allows are equal. Theorems. Assumes nothing.
 --     OneReply         what that says of a promise, which is a function's own `Post`: over lifetimes κs, arguments a, a result r and what stands at exit s. What is compared, the result and the contents of the lent buffers that may be written, is told by a function of r and s
 --     one_reply        the general law
---     NAME_one_reply   for each public function of this crate
+--     NAME_one_reply   for each public function of this crate, and for each comparison of Halves
 use mathlib.Core.Path.{◌≡◌, sym, ◌∙◌}
+use mathlib.Core.Bool.{Bool}
+use Rattle.number.specs.declared.halves.Halves.{Halves}
+use Rattle.number.proofs.laws.Orders.{below, at_most}
 use Rattle.number.proofs.address.from_halves.Reads as from_halves
 use Rattle.number.proofs.address.spelled.Reads as spelled
 use Rattle.number.proofs.address.to_halves.Reads as to_halves
 use Rattle.number.proofs.halves.bits.Reads as bits
-use Rattle.number.proofs.halves.same.Reads as same
-use Rattle.number.proofs.halves.below.Reads as below
-use Rattle.number.proofs.halves.at_most.Reads as at_most
+use Rattle.number.proofs.halves.HalvesPartialEq.eq.Reads as eq
+use Rattle.number.proofs.halves.HalvesPartialOrd.partial_cmp.Reads as partial_cmp
+use Rattle.number.proofs.halves.HalvesOrd.cmp.Reads as cmp
 use Rattle.number.proofs.halves.next.Reads as next
 use Rattle.number.proofs.halves.past.Reads as past
 use Rattle.number.proofs.kept.zeros.Reads as zeros
@@ -46,17 +49,23 @@ to_halves_one_reply κs a r r' s s' p q = one_reply p q
 pub bits_one_reply : OneReply bits.Post (λ κs r s. r)
 bits_one_reply κs a r r' s s' p q = one_reply p q
 
--- halves::same
-pub same_one_reply : OneReply same.Post (λ κs r s. r)
+-- halves::Halves: `==`
+pub same_one_reply : OneReply eq.Post (λ κs r s. r)
 same_one_reply κs a r r' s s' p q = one_reply p q
 
--- halves::below
-pub below_one_reply : OneReply below.Post (λ κs r s. r)
-below_one_reply κs a r r' s s' p q = one_reply p q
+-- halves::Halves: `<` and `<=`, whose promises are `r ≡ below a b` and `r ≡ at_most a b` (Orders)
+pub below_one_reply : (a b : Halves) (r r' : Bool) → r ≡ below a b → r' ≡ below a b → r ≡ r'
+below_one_reply a b r r' p q = one_reply p q
 
--- halves::at_most
-pub at_most_one_reply : OneReply at_most.Post (λ κs r s. r)
-at_most_one_reply κs a r r' s s' p q = one_reply p q
+pub at_most_one_reply : (a b : Halves) (r r' : Bool) → r ≡ at_most a b → r' ≡ at_most a b → r ≡ r'
+at_most_one_reply a b r r' p q = one_reply p q
+
+-- halves::Halves: what `<` and `<=` are made of
+pub partial_cmp_one_reply : OneReply partial_cmp.Post (λ κs r s. r)
+partial_cmp_one_reply κs a r r' s s' p q = one_reply p q
+
+pub cmp_one_reply : OneReply cmp.Post (λ κs r s. r)
+cmp_one_reply κs a r r' s s' p q = one_reply p q
 
 -- halves::next
 pub next_one_reply : OneReply next.Post (λ κs r s. r)
