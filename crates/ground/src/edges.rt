@@ -42,7 +42,7 @@ pub fn zero() -> Edge {
 
 // The last number of a width.
 pub fn last(width: Width) -> Edge {
-    below(halves::bits(width))
+    below(width.bits())
 }
 
 // 2 ^ k, and 0 where that has more than 128 bits.

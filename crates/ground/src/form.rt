@@ -2,7 +2,7 @@
 use crate::edges::Edge;
 use crate::{edges, print};
 use number::halves::Width;
-use number::{address, halves, shape};
+use number::{address, shape};
 
 fn told(rt: &impl Print, from: Width, low: Edge, to: Width, high: Edge) {
     let a = address::from_halves(from, edges::value(low));
@@ -30,7 +30,7 @@ fn around(rt: &impl Print, width: Width, k: u32, next: u32) {
 }
 
 pub fn pairs(rt: &impl Print, width: Width) {
-    let w = halves::bits(width);
+    let w = width.bits();
     for k in 0..w {
         around(rt, width, k, k + 1);
     }

@@ -2,7 +2,7 @@
 use crate::edges::Edge;
 use crate::{edges, print};
 use number::halves::{Halves, Width};
-use number::{halves, kept};
+use number::kept;
 
 fn row(rt: &impl Print, width: Width, edge: Edge) {
     let n = edges::value(edge);
@@ -19,7 +19,7 @@ fn row(rt: &impl Print, width: Width, edge: Edge) {
 }
 
 pub fn rows(rt: &impl Print, width: Width) {
-    let w = halves::bits(width);
+    let w = width.bits();
     for k in 0..w {
         row(rt, width, edges::below(k));
         row(rt, width, edges::at(k));
@@ -54,7 +54,7 @@ fn pattern(width: Width) -> Halves {
 // Every number of bits that can be kept, and more than there are.
 pub fn fills(rt: &impl Print, width: Width) {
     let n = pattern(width);
-    let w = halves::bits(width);
+    let w = width.bits();
     for k in 0..w {
         fill(rt, width, k, n);
     }

@@ -1,6 +1,5 @@
 // The parts of a line. Each is written with a space before it.
 use crate::edges::{Edge, Side};
-use number::halves;
 use number::halves::{Halves, Width};
 
 pub fn end(rt: &impl Print) {
@@ -60,7 +59,7 @@ pub fn octets(rt: &impl Print, octets: [u8; 16]) {
 }
 
 pub fn wide(rt: &impl Print, width: Width) {
-    count(rt, halves::bits(width));
+    count(rt, width.bits());
 }
 
 // The number of bits of a prefix, or that there is none.

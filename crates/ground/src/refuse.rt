@@ -1,11 +1,10 @@
 // The refusals and their numbers.
 use crate::print;
-use number::refusal;
 use number::refusal::Refusal;
 
 fn show(rt: &impl Print, refusal: Refusal) {
     let _ = rt.write_all(b"refusal");
-    print::long(rt, refusal::number(refusal));
+    print::long(rt, u64::from(refusal));
     print::end(rt);
 }
 

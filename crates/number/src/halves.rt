@@ -18,13 +18,15 @@ pub enum Width {
     Bits128,
 }
 
-// Returns the width as a number of bits.
-pub fn bits(width: Width) -> u32
-    ensures { result ≡ spec.bits width }
-{
-    match width {
-        Width::Bits32 => 32,
-        Width::Bits128 => 128,
+impl Width {
+    // Returns the width as a number of bits.
+    pub fn bits(self) -> u32
+        ensures { result ≡ spec.bits self }
+    {
+        match self {
+            Width::Bits32 => 32,
+            Width::Bits128 => 128,
+        }
     }
 }
 

@@ -3,7 +3,7 @@ ghost use Rattle.std.specs.Prelude.{◌≡◌, ◌+◌, ◌-◌, ◌*◌, ◌/�
 ghost use Rattle.number.specs.Halves.{whole, halves, bits as bits_of};
 ghost use Rattle.number.specs.Kept as spec;
 
-use crate::halves::{Halves, Width, ZERO, bits};
+use crate::halves::{Halves, Width, ZERO};
 
 // The run of zeros at the end of 128 bits, by the trailing-zero count of each half.
 fn zeros_at_end(n: Halves) -> u32
@@ -26,7 +26,7 @@ pub(crate) fn least(a: u32, b: u32) -> u32
 pub fn zeros(width: Width, n: Halves) -> u32
     ensures { result ≡ spec.run 0 (bits_of width) (whole n) }
 {
-    least(bits(width), zeros_at_end(n))
+    least(width.bits(), zeros_at_end(n))
 }
 
 // Returns the length of the run of ones at the end of the width bits of n: the zeros of both halves complemented.
@@ -37,7 +37,7 @@ pub fn ones(width: Width, n: Halves) -> u32
         upper: u64::MAX - n.upper,
         lower: u64::MAX - n.lower,
     };
-    least(bits(width), zeros_at_end(flipped))
+    least(width.bits(), zeros_at_end(flipped))
 }
 
 // x without its last j bits: zeros in their place.
@@ -104,7 +104,7 @@ fn filled(n: Halves, j: u32) -> Halves
 fn lost(width: Width, kept: u32) -> u32
     ensures { result ≡ bits_of width - kept }
 {
-    let w = bits(width);
+    let w = width.bits();
     if w < kept { 0 } else { w - kept }
 }
 
@@ -126,7 +126,7 @@ pub fn one_filled(width: Width, kept: u32, n: Halves) -> Halves
 pub fn kept_min(width: Width, n: Halves) -> u32
     ensures { result ≡ spec.kept_min (bits_of width) (whole n) }
 {
-    bits(width) - zeros(width, n)
+    width.bits() - zeros(width, n)
 }
 
 // Returns how many bits of max are kept: all but its trailing ones, of which the first is kept where no one bit would be left.
@@ -134,7 +134,7 @@ pub fn kept_max(width: Width, n: Halves) -> u32
     ensures { result ≡ spec.kept_max (bits_of width) (whole n) }
 {
     let run = ones(width, n);
-    let kept = bits(width) - run;
+    let kept = width.bits() - run;
     if run == 0 {
         return kept;
     }

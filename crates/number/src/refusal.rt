@@ -46,30 +46,32 @@ pub enum Refusal {
     OutputShort,
 }
 
-// Returns the refusal's number.
-pub fn number(refusal: Refusal) -> u64
-    ensures { result ≡ number_of refusal }
-{
-    match refusal {
-        Refusal::ValueSize => 1,
-        Refusal::Element => 2,
-        Refusal::Tag => 3,
-        Refusal::Contents => 4,
-        Refusal::OctetsLeft => 5,
-        Refusal::Afi => 6,
-        Refusal::FamilyOrder => 7,
-        Refusal::EmptyList => 8,
-        Refusal::RangeForm => 9,
-        Refusal::ElementOrder => 10,
-        Refusal::RowCount => 11,
-        Refusal::CertificateCount => 12,
-        Refusal::IssuerLacks => 13,
-        Refusal::NothingToInherit => 14,
-        Refusal::NotHeld => 15,
-        Refusal::TableShort => 16,
-        Refusal::Mark => 17,
-        Refusal::Framing => 18,
-        Refusal::NotATable => 19,
-        Refusal::OutputShort => 20,
+// The refusal's number.
+impl From<Refusal> for u64 {
+    ghost from_gives = { λ refusal n. n ≡ number_of refusal };
+
+    fn from(refusal: Refusal) -> u64 {
+        match refusal {
+            Refusal::ValueSize => 1,
+            Refusal::Element => 2,
+            Refusal::Tag => 3,
+            Refusal::Contents => 4,
+            Refusal::OctetsLeft => 5,
+            Refusal::Afi => 6,
+            Refusal::FamilyOrder => 7,
+            Refusal::EmptyList => 8,
+            Refusal::RangeForm => 9,
+            Refusal::ElementOrder => 10,
+            Refusal::RowCount => 11,
+            Refusal::CertificateCount => 12,
+            Refusal::IssuerLacks => 13,
+            Refusal::NothingToInherit => 14,
+            Refusal::NotHeld => 15,
+            Refusal::TableShort => 16,
+            Refusal::Mark => 17,
+            Refusal::Framing => 18,
+            Refusal::NotATable => 19,
+            Refusal::OutputShort => 20,
+        }
     }
 }

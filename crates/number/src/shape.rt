@@ -7,7 +7,7 @@ ghost use Rattle.number.specs.Kept.{one_filled};
 
 use crate::address::Address;
 use crate::halves::{Halves, Width};
-use crate::{address, halves, kept};
+use crate::{address, kept};
 
 // How many bits at the end run through all their values from low to high, if those are a prefix.
 fn free(width: Width, low: Halves, high: Halves) -> u32
@@ -27,7 +27,7 @@ fn is_filled(width: Width, count: u32, low: Halves, high: Halves) -> bool
 pub fn is_prefix(width: Width, low: Halves, high: Halves) -> bool
     ensures { result ≡ spec.is_prefix (bits_of width) (whole low) (whole high) }
 {
-    let count = halves::bits(width) - free(width, low, high);
+    let count = width.bits() - free(width, low, high);
     is_filled(width, count, low, high)
 }
 
@@ -38,7 +38,7 @@ pub fn tell(low: Address, high: Address) -> Option<u32>
     let width = low.width;
     let from = address::to_halves(low);
     let to = address::to_halves(high);
-    let count = halves::bits(width) - free(width, from, to);
+    let count = width.bits() - free(width, from, to);
     if is_filled(width, count, from, to) {
         Some(count)
     } else {

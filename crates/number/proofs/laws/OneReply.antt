@@ -9,7 +9,7 @@ use Rattle.number.proofs.laws.Orders.{below, at_most}
 use Rattle.number.proofs.address.from_halves.Reads as from_halves
 use Rattle.number.proofs.address.spelled.Reads as spelled
 use Rattle.number.proofs.address.to_halves.Reads as to_halves
-use Rattle.number.proofs.halves.bits.Reads as bits
+use Rattle.number.proofs.halves.Width.bits.Reads as bits
 use Rattle.number.proofs.halves.HalvesPartialEq.eq.Reads as eq
 use Rattle.number.proofs.halves.HalvesPartialOrd.partial_cmp.Reads as partial_cmp
 use Rattle.number.proofs.halves.HalvesOrd.cmp.Reads as cmp
@@ -21,7 +21,7 @@ use Rattle.number.proofs.kept.zero_filled.Reads as zero_filled
 use Rattle.number.proofs.kept.one_filled.Reads as one_filled
 use Rattle.number.proofs.kept.kept_min.Reads as kept_min
 use Rattle.number.proofs.kept.kept_max.Reads as kept_max
-use Rattle.number.proofs.refusal.number.Reads as number
+use Rattle.number.proofs.refusal.U64FromRefusal.from.Reads as number
 use Rattle.number.proofs.shape.is_prefix.Reads as is_prefix
 use Rattle.number.proofs.shape.tell.Reads as tell
 
@@ -45,7 +45,7 @@ spelled_one_reply κs a r r' s s' p q = one_reply p q
 pub to_halves_one_reply : OneReply to_halves.Post (λ κs r s. r)
 to_halves_one_reply κs a r r' s s' p q = one_reply p q
 
--- halves::bits
+-- halves::Width::bits
 pub bits_one_reply : OneReply bits.Post (λ κs r s. r)
 bits_one_reply κs a r r' s s' p q = one_reply p q
 
@@ -99,7 +99,7 @@ kept_min_one_reply κs a r r' s s' p q = one_reply p q
 pub kept_max_one_reply : OneReply kept_max.Post (λ κs r s. r)
 kept_max_one_reply κs a r r' s s' p q = one_reply p q
 
--- refusal::number
+-- refusal::Refusal: `u64::from`
 pub number_one_reply : OneReply number.Post (λ κs r s. r)
 number_one_reply κs a r r' s s' p q = one_reply p q
 
