@@ -3,7 +3,7 @@
 --     sixteen_at       octet k of the sixteen is `octet_at`
 --     octet_lower, octet_upper      an octet of 128 bits in two halves: what the code computes
 --     first_short, first_long, first_sixteen       the bits of a width as the first of 128
---     Stored       what holds of the octets that a loop has stored.        none_stored, one_stored, all_stored     before it, after one more, at the end
+--     Stored       what holds of the octets that a loop has stored.        all_stored     at the end
 use mathlib.Core.Path.{◌≡◌, refl, sym, ap, subst, ◌∙◌}
 use mathlib.Core.List.{List, ◌++◌}
 use mathlib.Core.Logic.{◌⊎◌, inl, inr}
@@ -175,19 +175,6 @@ pub record Stored (n : ℕ) (l : List ℕ) (k : ℕ) : Type 0 where
   pub fits : k ≤ 16
   pub size : length l ≡ 16
   pub each : (j : ℕ) → j < k → get_or l j 0 ≡ octet_at 128 n j
-
--- before the loop
-pub none_stored : (n : ℕ) → Stored n (replicate 16 0) 0
-none_stored n = record { fits = omega arith; size = refl; each = λ j h. absurd (omega arith) }
-
--- after one more
-pub one_stored : {n : ℕ} {l : List ℕ} {k : ℕ} (v : ℕ) → Stored n l k → k < 16 → v ≡ octet_at 128 n k → Stored n (set l k v) (k + 1)
-one_stored {n} {l} {k} v s h e =
-    record {
-      fits = omega arith;
-      size = simp length-set s.size;
-      each = below_more (λ (j : ℕ). get_or (set l k v) j 0 ≡ octet_at 128 n j) k (λ j p. get_or-set_other l k j v 0 (λ q. omega arith) ∙ s.each j p) (get_or-set_same l k v 0 (omega (arith, s.size)) ∙ e);
-    }
 
 -- at the end the octets are the address
 pub all_stored : {m : ℕ} {l : List ℕ} {k : ℕ} (width : Width) (n : ℕ) → Stored m l k → 16 ≤ k → m ≡ n % 2 ^ bits width * 2 ^ (128 - bits width)

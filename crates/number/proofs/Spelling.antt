@@ -1,5 +1,5 @@
 -- The number that octets spell, as the code computes it. Theorems. Assumes nothing.
---     Spelled      the loop's invariant.       start, mul_fits, sum_fits, turn, at_eight, at_end       its places
+--     Spelled      the loop's invariant.       start, mul_fits, sum_fits, turn, at_eight       its places, here and in der
 --     array_octets     an array's elements are octets
 --     narrow, broad        the halves of an address of 32 and of 128 bits, by what its octets spell
 use mathlib.Core.Path.{◌≡◌, refl, sym, ap, ap₂, ◌∙◌}
@@ -64,10 +64,6 @@ pub at_eight : {s : List ℕ} {n k : ℕ} → Spelled s n k → 8 ≤ k → n �
 at_eight {s} {n} {k} v h =
     let e : k ≡ 8 = omega arith in
     rw e at v.spelt
-
--- and where there are no more
-pub at_end : {s : List ℕ} {n k : ℕ} → Spelled s n k → length s ≤ k → n ≡ value (take 8 s)
-at_end {s} {n} {k} v h = v.spelt ∙ ap value (take_all k s h ∙ sym (take_all 8 s (omega arith)))
 
 -- a number below 2 ^ 64 is its own lower half
 small_halves : {l n : ℕ} → l < 2 ^ 64 → l ≡ n → ◌≡◌ {A = Halves} (record { upper = 0; lower = l }) (halves n)

@@ -1,5 +1,4 @@
--- Numbers in two halves of 64 bits: compared, stepped, and put together again. Theorems. Assumes nothing.
---     eq-, lt-, le_lower and -upper, lt_less, lt_more      the lower halves decide where the upper ones are equal, else the upper ones do
+-- Numbers in two halves of 64 bits: stepped, and put together again. (Compared: laws/Orders.) Theorems. Assumes nothing.
 --     halves_whole, whole_halves       two halves and their number, both ways
 --     next_below                       a number that is not the last one has its successor after it
 --     apart-, past-                    more than 1 past, in 64 bits and in two halves
@@ -22,29 +21,6 @@ ruleset tests = (ltb-true, ltb-false, leb-true, leb-false, eqb-true, eqb-false, 
 pub agree : (t u : Bool) → (t ≡ true → u ≡ true) → (t ≡ false → u ≡ false) → t ≡ u
 agree true u f g = sym (f refl)
 agree false u f g = sym (g refl)
-
-module _ (h l g m : ℕ) where
-  pub eq_lower : h ≡ g → eqb l m ≡ eqb (h * 2 ^ 64 + l) (g * 2 ^ 64 + m)
-  eq_lower e = agree _ _ (λ t. eq-eqb (h * 2 ^ 64 + l) (g * 2 ^ 64 + m) (omega (arith, eqb-true l m t))) (λ t. let n = eqb-false l m t in ne_eqb (h * 2 ^ 64 + l) (g * 2 ^ 64 + m) (omega arith))
-
-  pub lt_lower : h ≡ g → ltb l m ≡ ltb (h * 2 ^ 64 + l) (g * 2 ^ 64 + m)
-  lt_lower e = agree _ _ (λ t. omega (arith, tests)) (λ t. omega (arith, tests))
-
-  pub le_lower : h ≡ g → leb l m ≡ leb (h * 2 ^ 64 + l) (g * 2 ^ 64 + m)
-  le_lower e = agree _ _ (λ t. omega (arith, tests)) (λ t. omega (arith, tests))
-
-  pub lt_less : h < g → l < 2 ^ 64 → true ≡ ltb (h * 2 ^ 64 + l) (g * 2 ^ 64 + m)
-  lt_less e p = sym (lt-ltb (h * 2 ^ 64 + l) (g * 2 ^ 64 + m) (omega arith))
-
-  pub lt_more : g ≤ h → (h ≡ g → ⊥) → m < 2 ^ 64 → false ≡ ltb (h * 2 ^ 64 + l) (g * 2 ^ 64 + m)
-  lt_more e n q = sym (le-ltb (h * 2 ^ 64 + l) (g * 2 ^ 64 + m) (omega arith))
-
-  module _ (n : h ≡ g → ⊥) (p : l < 2 ^ 64) (q : m < 2 ^ 64) where
-    pub eq_upper : false ≡ eqb (h * 2 ^ 64 + l) (g * 2 ^ 64 + m)
-    eq_upper = sym (ne_eqb (h * 2 ^ 64 + l) (g * 2 ^ 64 + m) (λ (e : h * 2 ^ 64 + l ≡ g * 2 ^ 64 + m). n (omega arith)))
-
-    pub le_upper : ltb h g ≡ leb (h * 2 ^ 64 + l) (g * 2 ^ 64 + m)
-    le_upper = agree _ _ (λ t. omega (arith, tests)) (λ t. omega (arith, tests))
 
 -- two halves with equal parts
 pub halves_eq : (x y u v : ℕ) → x ≡ u → y ≡ v → ◌≡◌ {A = Halves} (record { upper = x; lower = y }) (record { upper = u; lower = v })

@@ -51,29 +51,23 @@ pub fn from_halves(width: Width, n: Halves) -> Address
 {
     let first = first_bits(width, n);
     let mut octets = [0u8; 16];
-    let mut k: usize = 0;
-    while k < 16 {
-        octets[k] = octet(first, k as u32);
-        k += 1;
+    for (k, place) in octets.iter_mut().enumerate() {
+        *place = octet(first, k as u32);
     }
     Address { width, octets }
-}
-
-fn wide(x: u8) -> u64
-    ensures { (result ≡ x) × (result < 256) }
-{
-    x as u64
 }
 
 // Returns the number that at most eight octets spell, the highest first; of more octets, the first eight.
 pub fn spelled(octets: &[u8]) -> u64
     ensures { result ≡ value (take 8 octets.now) }
 {
+    // Eight octets are one load.
+    if let Some(first) = octets.first_chunk() {
+        return u64::from_be_bytes(*first);
+    }
     let mut n: u64 = 0;
-    let mut k: usize = 0;
-    while k < 8 && k < octets.len() {
-        n = n * 256 + wide(octets[k]);
-        k += 1;
+    for octet in octets {
+        n = n * 256 + u64::from(*octet);
     }
     n
 }

@@ -1,5 +1,5 @@
 // The shortened bit lengths of min and max, and the bits filled in again (RFC 3779, section 2.2.3.9).
-ghost use Rattle.std.specs.Prelude.{◌≡◌, ◌+◌, ◌-◌, ◌*◌, ◌/◌, ◌^◌, ◌<◌, ◌≤◌, min};
+ghost use Rattle.std.specs.Prelude.{◌≡◌, ◌+◌, ◌-◌, ◌*◌, ◌/◌, ◌^◌, ◌<◌, ◌≤◌};
 ghost use Rattle.number.specs.Halves.{whole, halves, bits as bits_of};
 ghost use Rattle.number.specs.Kept as spec;
 
@@ -10,23 +10,16 @@ fn zeros_at_end(n: Halves) -> u32
     ensures { result ≡ spec.run 0 128 (whole n) }
 {
     if n.lower == 0 {
-        return 64 + u64::trailing_zeros(n.upper);
+        return 64 + n.upper.trailing_zeros();
     }
-    u64::trailing_zeros(n.lower)
-}
-
-// The less of a and b.
-pub(crate) fn least(a: u32, b: u32) -> u32
-    ensures { result ≡ min a b }
-{
-    if a < b { a } else { b }
+    n.lower.trailing_zeros()
 }
 
 // Returns the length of the run of zeros at the end of the width bits of n.
 pub fn zeros(width: Width, n: Halves) -> u32
     ensures { result ≡ spec.run 0 (bits_of width) (whole n) }
 {
-    least(width.bits(), zeros_at_end(n))
+    width.bits().min(zeros_at_end(n))
 }
 
 // Returns the length of the run of ones at the end of the width bits of n: the zeros of both halves complemented.
@@ -37,7 +30,7 @@ pub fn ones(width: Width, n: Halves) -> u32
         upper: u64::MAX - n.upper,
         lower: u64::MAX - n.lower,
     };
-    least(width.bits(), zeros_at_end(flipped))
+    width.bits().min(zeros_at_end(flipped))
 }
 
 // x without its last j bits: zeros in their place.
@@ -104,8 +97,7 @@ fn filled(n: Halves, j: u32) -> Halves
 fn lost(width: Width, kept: u32) -> u32
     ensures { result ≡ bits_of width - kept }
 {
-    let w = width.bits();
-    if w < kept { 0 } else { w - kept }
+    width.bits().saturating_sub(kept)
 }
 
 // Returns n with its first `kept` bits, of as many as the width has, and zeros after them.

@@ -13,7 +13,7 @@ use crate::{address, kept};
 fn free(width: Width, low: Halves, high: Halves) -> u32
     ensures { result ≡ spec.free (bits_of width) (whole low) (whole high) }
 {
-    kept::least(kept::zeros(width, low), kept::ones(width, high))
+    kept::zeros(width, low).min(kept::ones(width, high))
 }
 
 // Whether high is low with ones after its first `count` bits.

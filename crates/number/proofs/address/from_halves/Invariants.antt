@@ -1,10 +1,6 @@
-use Prim.Native.Nat.{◌-◌}
 use Rattle.number.specs.Halves.{whole}
 use Rattle.number.proofs.Sixteen.{Stored}
 use Rattle.number.proofs.address.from_halves.Given as goal
 
 abbrev pub invariant-loop-k : goal.invariant-loop-k
-invariant-loop-k l = Stored (whole l.first) l.octets l.k
-
-abbrev pub decreases-loop-k : goal.decreases-loop-k
-decreases-loop-k l = 16 - l.k
+invariant-loop-k l = Stored (whole l.first) l.place-items l.k

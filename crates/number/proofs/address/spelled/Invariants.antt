@@ -1,9 +1,5 @@
-use Prim.Native.Nat.{◌-◌}
 use Rattle.number.proofs.Spelling.{Spelled}
 use Rattle.number.proofs.address.spelled.Given as goal
 
-abbrev pub invariant-loop-k : goal.invariant-loop-k
-invariant-loop-k l = Spelled l.octets l.n l.k
-
-abbrev pub decreases-loop-k : goal.decreases-loop-k
-decreases-loop-k l = 8 - l.k
+abbrev pub invariant-loop-octet : goal.invariant-loop-octet
+invariant-loop-octet l = Spelled l.octets l.n l.octet-index
