@@ -10,11 +10,10 @@ use mathlib.Core.Logic.{◌⊎◌, inl, inr}
 use Prim.Native.Nat.{ℕ, zero, suc, ◌+◌, ◌-◌, ◌*◌, ◌/◌, ◌%◌, ◌^◌, ◌≤◌, ◌<◌}
 use native.Mathlib.Nat.{mod-lt, mod-eq_of_lt, add-zero, mul-one, mul_assoc, mul-add-mod_self_right}
 use native.Mathlib.Omega.{arith}
-use borrow.Author.Count.{below_more}
 use borrow.Author.Tests.{le-ltb, lt-ltb}
 use lib.Pow.{pow_pos, pow-add, high, field, shr_mod, shr-shr, shl-shr, mod-mod-pow}
-use lib.ListN.{length, set, get_or, replicate, length-append, length-set, length-replicate, get_or-append}
-use lib.Seq.{get_or-append-add, get_or-set_same, get_or-set_other, ext_get_or}
+use lib.ListN.{length, get_or, replicate, length-append, length-replicate, get_or-append}
+use lib.Seq.{get_or-append-add, ext_get_or}
 use Rattle.number.specs.Halves.{whole, bits}
 use Rattle.number.specs.Octets.{octets, octet_at}
 use Rattle.number.specs.Address.{sixteen, address_of}

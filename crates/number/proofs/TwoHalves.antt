@@ -1,21 +1,18 @@
 -- Numbers in two halves of 64 bits: stepped, and put together again. (Compared: laws/Orders.) Theorems. Assumes nothing.
 --     halves_whole, whole_halves       two halves and their number, both ways
 --     next_below                       a number that is not the last one has its successor after it
---     apart-, past-                    more than 1 past, in 64 bits and in two halves
+--     past_next                        more than 1 past
 use Prim.Native.Nat.{ℕ, ◌+◌, ◌-◌, ◌*◌, ◌/◌, ◌%◌, ◌<◌, ◌≤◌, ◌^◌}
 use mathlib.Core.Path.{◌≡◌, refl, sym, ap, ap₂, ◌∙◌}
 use mathlib.Core.Bool.{Bool, true, false}
 use native.Mathlib.Nat.{div-add-mod', not-le_of_lt}
 use native.Mathlib.Omega.{arith}
 use lib.Arith.{digits_lt}
-use lib.Dec.{ltb, leb, eqb}
+use lib.Dec.{ltb, eqb}
 use lib.Pow.{high, low, pow-add}
-use borrow.Author.Tests.{ltb-true, ltb-false, leb-true, leb-false, eqb-true, eqb-false, lt-ltb, le-ltb, le-leb, lt-leb, eq-eqb, ne_eqb}
+use borrow.Author.Tests.{eqb-true, le-ltb, eq-eqb, ne_eqb}
 use Rattle.number.specs.Halves.{whole, halves, next}
 use Rattle.number.specs.declared.halves.Halves.{Halves}
-
--- from a test to its fact, and from the fact to the test
-ruleset tests = (ltb-true, ltb-false, leb-true, leb-false, eqb-true, eqb-false, lt-ltb, le-ltb, le-leb, lt-leb)
 
 -- two tests that agree both ways
 pub agree : (t u : Bool) → (t ≡ true → u ≡ true) → (t ≡ false → u ≡ false) → t ≡ u
@@ -75,25 +72,11 @@ module _ (a : Halves) where
 pub next_below : (n m : ℕ) → n < m → m < 2 ^ 128 → next n ≡ n + 1
 next_below n m p q = sym (next_more n (λ (e : n ≡ 2 ^ 128 - 1). not-le_of_lt q (rw e at p)))
 
--- more than 1 past, in 64 bits
-pub apart_some : (a b : ℕ) → a < b → ltb 1 (b - a) ≡ ltb (a + 1) b
-apart_some a b h = agree _ _ (λ t. omega (arith, tests)) (λ t. omega (arith, tests))
-
-pub apart_none : (a b : ℕ) → b ≤ a → false ≡ ltb (a + 1) b
-apart_none a b h = sym (le-ltb (a + 1) b (omega arith))
-
--- more than 1 past, in halves: by the lower ones where the upper ones are equal
-module _ (h l g m : ℕ) where
-  pub past_lower : {r : Bool} → h ≡ g → r ≡ ltb (l + 1) m → r ≡ ltb (h * 2 ^ 64 + l + 1) (g * 2 ^ 64 + m)
-  past_lower {r} e i = i ∙ agree _ _ (λ t. omega (arith, tests)) (λ t. omega (arith, tests))
-
-  -- else by the upper ones, if something lies between them
-  module _ (n : h ≡ g → ⊥) (p : l < 2 ^ 64) (q : m < 2 ^ 64) where
-    pub past_upper : l < 18446744073709551615 → ltb h g ≡ ltb (h * 2 ^ 64 + l + 1) (g * 2 ^ 64 + m)
-    past_upper s = agree _ _ (λ t. omega (arith, tests)) (λ t. omega (arith, tests))
-
-    pub past_some : 0 < m → ltb h g ≡ ltb (h * 2 ^ 64 + l + 1) (g * 2 ^ 64 + m)
-    past_some s = agree _ _ (λ t. omega (arith, tests)) (λ t. omega (arith, tests))
-
-    pub past_full : {r : Bool} → 18446744073709551615 ≤ l → m ≤ 0 → r ≡ ltb (h + 1) g → r ≡ ltb (h * 2 ^ 64 + l + 1) (g * 2 ^ 64 + m)
-    past_full {r} s z i = i ∙ agree _ _ (λ t. omega (arith, tests)) (λ t. omega (arith, tests))
+-- a number is more than 1 past another exactly if it is past the next one, which the last number is not
+pub past_next : {r : Bool} {h : Halves} (n m : ℕ) → m < 2 ^ 128 → h ≡ halves (next n) → r ≡ ltb (whole h) m → r ≡ ltb (n + 1) m
+unfolding next
+past_next {r} {h} n m b e p = p ∙ ap (λ (x : Halves). ltb (whole x) m) e ∙ ap (λ (x : ℕ). ltb x m) (whole_halves (next n)) ∙ go (eqb n (2 ^ 128 - 1)) refl
+  where
+    go : (t : Bool) → eqb n (2 ^ 128 - 1) ≡ t → ltb (next n) m ≡ ltb (n + 1) m
+    go true q = let k = eqb-true n (2 ^ 128 - 1) q in rw q (le-ltb n m (omega arith) ∙ sym (le-ltb (n + 1) m (omega arith)))
+    go false q = rw q refl

@@ -1,9 +1,9 @@
 -- Two halves of 64 bits stand to each other as their numbers do: what `==`, `<` and `<=` say of them. Theorems. Assumes nothing.
 --     same, below, at_most     what the operators are, as the code of a caller has them in its facts
 --     halves_same, halves_below, halves_at_most     a test by an operator is the test of the numbers
-use mathlib.Core.Path.{◌≡◌, ◌∙◌}
-use mathlib.Core.Bool.{Bool, true, false}
-use Prim.Native.Nat.{ℕ, ◌+◌, ◌*◌, ◌^◌, ◌<◌}
+use mathlib.Core.Path.{◌≡◌}
+use mathlib.Core.Bool.{Bool}
+use Prim.Native.Nat.{◌^◌, ◌<◌}
 use native.Mathlib.Omega.{arith}
 use lib.Dec.{ltb, leb, eqb}
 use Rattle.std.specs.Ordering.{partial_lt, partial_le}
