@@ -18,9 +18,9 @@ use Rattle.writer.specs.Papers as writer
 use Rattle.writer.specs.declared.Writing.{Writing}
 use Rattle.path.specs.Papers as replies
 use Rattle.path.specs.Paths as path
-use Rattle.path.specs.declared.replies.Reply.{Reply}
 use Rattle.face.specs.Face.{nine, part_of, parted, told, too_short, given, read_ip_face, read_as_face, write_face, path_face, fault_face, numbers}
 use Rattle.face.specs.declared.Nine.{Nine}
+use Rattle.path.specs.Replies.{Reply}
 
 -- nine stores at the start of a run
 pub put_nine : (n : Nine) (l : List ℕ) → nine ≤ length l

@@ -108,8 +108,8 @@ fn of_reply(reply: Reply) -> Nine
     ensures { spec.numbers result ≡ path.paper reply }
 {
     match reply {
-        Reply::Accepted(rows, pairs) => accepted(rows, pairs),
-        Reply::Refused(fault) => refused(fault),
+        Ok(done) => accepted(done.rows, done.pairs),
+        Err(fault) => refused(fault),
     }
 }
 

@@ -9,6 +9,7 @@ use native.Mathlib.Omega.{arith}
 use lib.ListN.{length}
 use lib.Dec.{ltb, eqb}
 use borrow.Author.Tests.{ltb-false, le-ltb}
+use Rattle.std.specs.Prelude.{Ok, Err}
 use Rattle.number.specs.Tests.{pick}
 use Rattle.number.specs.declared.refusal.Refusal.TheVariants as refusal
 use Rattle.table.specs.Sizes.{max_rows, table_numbers}
@@ -16,10 +17,9 @@ use Rattle.table.specs.Rows.{Row, with_rows, cleared}
 use Rattle.der.specs.Parts.{is, isnt}
 use Rattle.values.specs.declared.readings.Refused.{Refused}
 use Rattle.path.specs.Walk.{Result, covered, missing, walk}
-use Rattle.path.specs.Replies.{fault_at}
+use Rattle.path.specs.Replies.{fault_at, Reply}
+use Rattle.path.specs.declared.replies.Accepted.{Accepted}
 use Rattle.path.specs.Certificate.{Above, Step, onward, walk_step, hold_step, inherit_step, after_inheritance, presence_step, after_presence, read_step, after_reading, certificate, Left, left, checked}
-use Rattle.path.specs.declared.replies.Reply.{Reply}
-use Rattle.path.specs.declared.replies.Reply.TheVariants as reply
 use Rattle.path.proofs.laws.Walks.{pairs_few}
 
 -- BY ITS REPLY
@@ -44,7 +44,7 @@ module _ (a : Above) (ip ids t : List ℕ) (r : Reply) (t' : List ℕ) (long : t
   opened = rw (le-ltb (length t) table_numbers long) at e
 
   -- by a refusal
-  pub refuses : (f : Refused) → r ≡ reply.Refused f → Refuses a ip ids t t' f
+  pub refuses : (f : Refused) → r ≡ Err f → Refuses a ip ids t t' f
   refuses f y = go (certificate a ip ids) refl opened
     where
       go : (s : Step (List Row × ℕ)) → certificate a ip ids ≡ s → ◌≡◌ {A = Left} (r, t') (left s t) → Refuses a ip ids t t' f
@@ -52,16 +52,15 @@ module _ (a : Above) (ip ids t : List ℕ) (r : Reply) (t' : List ℕ) (long : t
       go (isnt g) p q = let x = ap (λ (l : Left). l.0) q in let same : g ≡ f = cc in record { so = p ∙ ap (λ (x : Refused). isnt x) same; table = ap (λ (l : Left). l.1) q }
 
   -- by rows and pairs
-  pub accepts : (n pairs : ℕ) → r ≡ reply.Accepted n pairs → Accepts a ip ids t t' n pairs
-  accepts n pairs y = go (certificate a ip ids) refl opened
+  pub accepts : (x : Accepted) → r ≡ Ok x → Accepts a ip ids t t' x.rows x.pairs
+  accepts x y = go (certificate a ip ids) refl opened
     where
-      go : (s : Step (List Row × ℕ)) → certificate a ip ids ≡ s → ◌≡◌ {A = Left} (r, t') (left s t) → Accepts a ip ids t t' n pairs
+      go : (s : Step (List Row × ℕ)) → certificate a ip ids ≡ s → ◌≡◌ {A = Left} (r, t') (left s t) → Accepts a ip ids t t' x.rows x.pairs
       go (isnt g) p q = let x = ap (λ (l : Left). l.0) q in let z : ◌≡◌ {A = ℕ} 0 1 = cc in absurd (omega arith)
       go (is h) p q =
-          let x = ap (λ (l : Left). l.0) q in
-          let rows : n ≡ length h.0 = cc in
-          let counted : pairs ≡ h.1 = cc in
-          record { held = h; so = p; rows = rows; counted = counted; table = ap (λ (l : Left). l.1) q }
+          let z = ap (λ (l : Left). l.0) q in
+          let same : x ≡ record { rows = length h.0; pairs = h.1 } = cc in
+          record { held = h; so = p; rows = ap (λ (y : Accepted). y.rows) same; counted = ap (λ (y : Accepted). y.pairs) same; table = ap (λ (l : Left). l.1) q }
 
 -- HOW MUCH
 

@@ -9,6 +9,7 @@ use Prim.Native.Nat.{ℕ, zero, suc, min, ◌-◌, ◌%◌, ◌≤◌, ◌<◌}
 use native.Mathlib.Omega.{arith}
 use lib.ListN.{length, take, drop}
 use borrow.Author.Tests.{lt-ltb, le-ltb}
+use Rattle.std.specs.Prelude.{Ok, Err, Result}
 use Rattle.number.specs.declared.refusal.Refusal.{Refusal}
 use Rattle.number.specs.declared.refusal.Refusal.TheVariants as refusal
 use Rattle.number.proofs.Picks.{rest_of}
@@ -19,12 +20,10 @@ use Rattle.der.specs.Parts.{is, isnt}
 use Rattle.path.specs.Bundle.{frame_of, certificates_in}
 use Rattle.path.specs.Certificate.{anchor, Step, seen_above}
 use Rattle.path.specs.Paths.{descent, path_of, Left, tabled, leaves, bare, check, Starting, placed, ends, descended}
-use Rattle.path.specs.declared.bundles.Framing.{Framing}
-use Rattle.path.specs.declared.bundles.Framing.TheVariants as framing
-use Rattle.path.specs.declared.replies.Reply.{Reply}
 use Rattle.path.specs.declared.certificates.Above as code
 use Rattle.path.proofs.Framed.{Bundled, bundled}
 use Rattle.path.proofs.Tabled.{full_none}
+use Rattle.path.specs.Replies.{Reply}
 
 -- THE TWO TABLES IN THEIR PLACES
 
@@ -68,7 +67,7 @@ module _ (count : ℕ) (values first second : List ℕ) (r : Reply) (first' seco
       go (isnt f) q = q
 
 -- the head of a bundle that `frame` found framed
-pub head_there : (b : List ℕ) (f : Framing) (n : ℕ) → f ≡ frame_of b → f ≡ framing.Certificates n → 6 ≤ length b
+pub head_there : (b : List ℕ) (f : Result ℕ Refusal) (n : ℕ) → f ≡ frame_of b → f ≡ Ok n → 6 ≤ length b
 head_there b f n p q = (bundled b n (sym p ∙ q)).least
 
 -- THE CHECK
@@ -90,14 +89,14 @@ module _ (b first second : List ℕ) where
       unfolding check
       opened = rw (le-ltb (length first) table_numbers long, le-ltb (length second) table_numbers long')
 
-      module _ (f : Framing) (p : f ≡ frame_of b) (first₁ second₁ : List ℕ) (u : first₁ ≡ cleared table_numbers first) (v : second₁ ≡ cleared table_numbers second) where
+      module _ (f : Result ℕ Refusal) (p : f ≡ frame_of b) (first₁ second₁ : List ℕ) (u : first₁ ≡ cleared table_numbers first) (v : second₁ ≡ cleared table_numbers second) where
         -- the bundle is refused
-        pub check_refused : (r : Reply) (x : Refusal) → f ≡ framing.Refused x → r ≡ bare x → ◌≡◌ {A = Left} (r, first₁, second₁) (check b first second)
+        pub check_refused : (r : Reply) (x : Refusal) → f ≡ Err x → r ≡ bare x → ◌≡◌ {A = Left} (r, first₁, second₁) (check b first second)
         unfolding path_of
         check_refused r x y e = rw (opened, ← p, y, e, u, v)
 
         -- it has certificates
-        module _ (n : ℕ) (y : f ≡ framing.Certificates n) where
+        module _ (n : ℕ) (y : f ≡ Ok n) where
           -- which are well framed,
           framed : Bundled b n
           framed = bundled b n (sym p ∙ y)

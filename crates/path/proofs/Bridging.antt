@@ -11,6 +11,7 @@ use native.Mathlib.Omega.{arith}
 use lib.ListN.{length, length-append}
 use lib.Dec.{ltb, eqb}
 use borrow.Author.Tests.{lt-ltb, le-ltb, eq-eqb, ne_eqb}
+use Rattle.std.specs.Prelude.{Err}
 use Rattle.number.specs.Tests.{pick}
 use Rattle.number.specs.Octets.{Octets}
 use Rattle.number.specs.declared.refusal.Refusal.TheVariants as refusal
@@ -26,10 +27,8 @@ use Rattle.values.specs.declared.readings.Reading.{Reading}
 use Rattle.values.specs.declared.readings.Reading.TheVariants as reading
 use Rattle.values.specs.declared.readings.Refused.{Refused}
 use Rattle.values.proofs.laws.Exact.{ip_exact, as_exact_after}
-use Rattle.path.specs.Replies.{fault_at, named}
+use Rattle.path.specs.Replies.{fault_at, named, Reply}
 use Rattle.path.specs.Certificate.{Step, onward, blamed, value_step, ip_step, as_step, read_step, lacked, after_presence, after_reading, certificate, Left, seen_above, refused, left, checked}
-use Rattle.path.specs.declared.replies.Reply.{Reply}
-use Rattle.path.specs.declared.replies.Reply.TheVariants as reply
 use Rattle.path.specs.declared.certificates.Above as code
 use Rattle.path.proofs.Checking.{read_again}
 
@@ -128,7 +127,7 @@ module _ (a : code.Above) (issuer ip ids own : List ℕ) where
   answer = checked (seen_above a issuer) ip ids own
 
   -- a table too short
-  pub certificate_short : (f : Refused) → length own < table_numbers → f ≡ fault_at refusal.TableShort 0 0 0 0 → ◌≡◌ {A = Left} (reply.Refused f, own) answer
+  pub certificate_short : (f : Refused) → length own < table_numbers → f ≡ fault_at refusal.TableShort 0 0 0 0 → ◌≡◌ {A = Left} (Err f, own) answer
   unfolding checked
   certificate_short f h e = rw (lt-ltb (length own) table_numbers h, e)
 
@@ -147,7 +146,7 @@ module _ (a : code.Above) (issuer ip ids own : List ℕ) where
           go (is rows) (i, j, m) = let z : ◌≡◌ {A = ℕ} 0 1 = cc in absurd (omega arith)
           go (isnt o) (i, j, m, c) =
               let y : f ≡ o = cc in
-              q ∙ ap₂ (λ (w : Refused) (l : List ℕ). (reply.Refused w, l)) y c
+              q ∙ ap₂ (λ (w : Refused) (l : List ℕ). (Err w, l)) y c
 
       -- both are read: so many rows, and they are in the table
       module _ (n : ℕ) (h : x ≡ reading.Rows n) where
@@ -165,7 +164,7 @@ module _ (a : code.Above) (issuer ip ids own : List ℕ) where
           pub certificate_lacks : (l ≡ 0 → ⊥) → (f : Refused) → f ≡ fault_at refusal.IssuerLacks a.certificates l 0 0 → ◌≡◌ {A = Left} (r, u) (refused f t) → ◌≡◌ {A = Left} (r, u) answer
           unfolding after_reading
           certificate_lacks z f p q = both_read (λ rows i j m.
-              rw (← d, ne_eqb l 0 z) (q ∙ rw (p, j) (ap (λ (w : List ℕ). (reply.Refused (fault_at refusal.IssuerLacks a.certificates l 0 0), w)) (cleared_rows own 0 rows (omega arith)))))
+              rw (← d, ne_eqb l 0 z) (q ∙ rw (p, j) (ap (λ (w : List ℕ). (Err (fault_at refusal.IssuerLacks a.certificates l 0 0), w)) (cleared_rows own 0 rows (omega arith)))))
 
           -- it does not: inheritance is next
           pub certificate_inherits : l ≡ 0 → ◌≡◌ {A = Left} (r, u) (left (after_presence (seen_above a issuer) (rows_of n t)) t) → ◌≡◌ {A = Left} (r, u) answer

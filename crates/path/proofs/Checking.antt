@@ -12,6 +12,7 @@ use native.Mathlib.Omega.{arith}
 use lib.ListN.{length}
 use lib.Dec.{ltb, eqb}
 use borrow.Author.Tests.{lt-ltb, le-ltb, eq-eqb, ne_eqb, ltb-true, ltb-false, not-true, not-false}
+use Rattle.std.specs.Prelude.{Ok, Err, Some, None}
 use Rattle.number.specs.Tests.{pick}
 use Rattle.number.specs.Halves.{halves}
 use Rattle.number.specs.declared.halves.Halves.{Halves}
@@ -24,20 +25,18 @@ use Rattle.der.specs.Parts.{is, isnt}
 use Rattle.values.specs.Limits.{ip_extension, as_extension, as_numbers}
 use Rattle.values.specs.declared.readings.Refused.{Refused}
 use Rattle.path.specs.Walk.{Result, covered, missing, walk, replied, walked_of}
-use Rattle.path.specs.Inherit.{resolved, Spaces, all, lacks, lacking, filled_in, inherit}
-use Rattle.path.specs.Replies.{fault_at, extension_of}
-use Rattle.path.specs.Certificate.{Above, Step, onward, carried, lacked, spaces_step, walk_step, hold_step, after_inheritance, after_presence, Left, seen_above, refused, left, held_by}
-use Rattle.path.specs.declared.replies.Reply.{Reply}
-use Rattle.path.specs.declared.replies.Reply.TheVariants as reply
-use Rattle.path.specs.declared.walks.Found.TheVariants as found
+use Rattle.path.specs.Inherit.{resolved, Spaces, all, lacks, lacking, filled_in, inherit, Inherited}
+use Rattle.path.specs.Replies.{fault_at, extension_of, Reply}
+use Rattle.path.specs.Certificate.{Above, Step, onward, carried, lacked, spaces_step, walk_step, hold_step, after_inheritance, after_presence, Left, seen_above, refused, left, uninherited, held_by}
 use Rattle.path.specs.declared.walks.Walked as walked
-use Rattle.path.specs.declared.inherits.Inherited.{Inherited}
-use Rattle.path.specs.declared.inherits.Inherited.TheVariants as inherited
 use Rattle.path.specs.declared.certificates.Above as code
 use Rattle.path.proofs.Parts.{no_fewer}
+use Rattle.path.specs.declared.inherits.Uninherited.{Uninherited}
+use Rattle.path.specs.declared.inherits.Uninherited.TheVariants as why
+use Rattle.path.specs.declared.walks.Missing.{Missing}
 
 -- a refusal leaves zeros
-pub refused_leaves : (f : Refused) (t t' : List ℕ) → t' ≡ cleared table_numbers t → ◌≡◌ {A = Left} (reply.Refused f, t') (refused f t)
+pub refused_leaves : (f : Refused) (t t' : List ℕ) → t' ≡ cleared table_numbers t → ◌≡◌ {A = Left} (Err f, t') (refused f t)
 refused_leaves f t t' e = rw e
 
 -- a refusal in a space
@@ -92,17 +91,17 @@ module _ (ip ids : List ℕ) (has_ip has_ids : Bool) where
 -- THE WALK
 
 -- a walk that found all covered,
-was_covered : (r : Result) (p : ℕ) (w : walked.Walked) → w ≡ replied r p → w.found ≡ found.Covered → (r ≡ covered) × (p ≡ w.pairs)
+was_covered : (r : Result) (p : ℕ) (w : walked.Walked) → w ≡ replied r p → w.missing ≡ None → (r ≡ covered) × (p ≡ w.pairs)
 was_covered covered p w e h = (refl, sym (ap (λ (x : walked.Walked). x.pairs) e))
-was_covered (missing s n) p w e h = let q = ap (λ (x : walked.Walked). x.found) e in let z : ◌≡◌ {A = ℕ} 0 1 = cc in absurd (omega arith)
+was_covered (missing s n) p w e h = let q = ap (λ (x : walked.Walked). x.missing) e in let z : ◌≡◌ {A = ℕ} 0 1 = cc in absurd (omega arith)
 
 -- and one that found a number missing
-was_missing : (r : Result) (p : ℕ) (w : walked.Walked) (s : ℕ) (v : Halves) → w ≡ replied r p → w.found ≡ found.Missing s v → (n : ℕ) × (r ≡ missing s n) × (v ≡ halves n)
-was_missing covered p w s v e h = let q = ap (λ (x : walked.Walked). x.found) e in let z : ◌≡◌ {A = ℕ} 0 1 = cc in absurd (omega arith)
-was_missing (missing t n) p w s v e h =
-    let q = ap (λ (x : walked.Walked). x.found) e in
-    let u : t ≡ s = cc in
-    (n, ap (λ (i : ℕ). missing i n) u, cc)
+was_missing : (r : Result) (p : ℕ) (w : walked.Walked) (m : Missing) → w ≡ replied r p → w.missing ≡ Some m → (n : ℕ) × (r ≡ missing m.space n) × (m.value ≡ halves n)
+was_missing covered p w m e h = let q = ap (λ (x : walked.Walked). x.missing) e in let z : ◌≡◌ {A = ℕ} 0 1 = cc in absurd (omega arith)
+was_missing (missing t n) p w m e h =
+    let q = ap (λ (x : walked.Walked). x.missing) e in
+    let u : m ≡ record { space = t; value = halves n } = cc in
+    (n, ap (λ (x : Missing). missing x.space n) (sym u), ap (λ (x : Missing). x.value) u)
 
 module _ (a : code.Above) (issuer own : List ℕ) (n : ℕ) where
   -- what is to be answered
@@ -110,26 +109,26 @@ module _ (a : code.Above) (issuer own : List ℕ) (n : ℕ) where
   held = held_by n own (hold_step (seen_above a issuer) (rows_in n own))
 
   -- the anchor
-  pub hold_anchor : a.certificates ≡ 0 → ◌≡◌ {A = Left} (reply.Accepted n 0, own) held
+  pub hold_anchor : a.certificates ≡ 0 → ◌≡◌ {A = Left} (Ok (record { rows = n; pairs = 0 }), own) held
   unfolding hold_step
   hold_anchor h = rw (eq-eqb a.certificates 0 h)
 
   module _ (some : a.certificates ≡ 0 → ⊥) (w : walked.Walked) (e : w ≡ walked_of (walk (rows_in n own) (rows_in a.rows issuer))) where
     -- all is covered
-    pub hold_covered : w.found ≡ found.Covered → ◌≡◌ {A = Left} (reply.Accepted n w.pairs, own) held
+    pub hold_covered : w.missing ≡ None → ◌≡◌ {A = Left} (Ok (record { rows = n; pairs = w.pairs }), own) held
     unfolding hold_step
     hold_covered h =
         let (r, p) = was_covered (walk (rows_in n own) (rows_in a.rows issuer)).result (walk (rows_in n own) (rows_in a.rows issuer)).pairs w e h in
         rw (ne_eqb a.certificates 0 some, r, p)
 
     -- a number is missing
-    pub hold_missing : (s : ℕ) (v : Halves) → w.found ≡ found.Missing s v → (f : Refused) → f ≡ fault_in refusal.NotHeld a.certificates (extension_of s) s v
+    pub hold_missing : (m : Missing) → w.missing ≡ Some m → (f : Refused) → f ≡ fault_in refusal.NotHeld a.certificates (extension_of m.space) m.space m.value
         → (r : Reply) (t : List ℕ) → ◌≡◌ {A = Left} (r, t) (refused f own) → ◌≡◌ {A = Left} (r, t) held
     unfolding hold_step
-    hold_missing s v h f g r t q = let (x, m, u) = was_missing (walk (rows_in n own) (rows_in a.rows issuer)).result (walk (rows_in n own) (rows_in a.rows issuer)).pairs w s v e h in from x m u
+    hold_missing m h f g r t q = let (x, y, u) = was_missing (walk (rows_in n own) (rows_in a.rows issuer)).result (walk (rows_in n own) (rows_in a.rows issuer)).pairs w m e h in from x y u
       where
-        from : (x : ℕ) → (walk (rows_in n own) (rows_in a.rows issuer)).result ≡ missing s x → v ≡ halves x → ◌≡◌ {A = Left} (r, t) held
-        from x m u = rw (ne_eqb a.certificates 0 some, m) (q ∙ rw (g, u))
+        from : (x : ℕ) → (walk (rows_in n own) (rows_in a.rows issuer)).result ≡ missing m.space x → m.value ≡ halves x → ◌≡◌ {A = Left} (r, t) held
+        from x y u = rw (ne_eqb a.certificates 0 some, y) (q ∙ rw (g, u))
 
 -- INHERITANCE
 
@@ -146,14 +145,14 @@ held_left a t rows h = go (eqb a.certificates 0) (walk rows a.rows).result
         ≡ left (pick b (is (rows, 0)) (walk_step a.certificates rows r (walk rows a.rows).pairs)) t
     go true r = refl
     go false covered = refl
-    go false (missing s n) = ap (λ (l : List ℕ). (reply.Refused (fault_at refusal.NotHeld a.certificates (extension_of s) s n), l)) (cleared_rows t 0 rows (omega arith))
+    go false (missing s n) = ap (λ (l : List ℕ). (Err (fault_at refusal.NotHeld a.certificates (extension_of s) s n), l)) (cleared_rows t 0 rows (omega arith))
 
 -- what `inherits::inherit` answered and left, by its answer
 abbrev Filled : Spaces → List Row → List ℕ → Inherited → List ℕ → Type 0
-Filled s rows own (inherited.Rows k) t = (s ≡ all) × (length rows ≤ max_rows) × (k ≡ length rows) × (t ≡ with_rows own 0 rows)
-Filled s rows own (inherited.NoSpace x) t = (s ≡ lacks x) × (t ≡ own)
-Filled s rows own inherited.TooMany t = (s ≡ all) × (max_rows < length rows) × (t ≡ own)
-Filled s rows own inherited.Short t = ⊥
+Filled s rows own (Ok k) t = (s ≡ all) × (length rows ≤ max_rows) × (k ≡ length rows) × (t ≡ with_rows own 0 rows)
+Filled s rows own (Err (why.NoSpace x)) t = (s ≡ lacks x) × (t ≡ own)
+Filled s rows own (Err why.TooMany) t = (s ≡ all) × (max_rows < length rows) × (t ≡ own)
+Filled s rows own (Err why.Short) t = ⊥
 
 -- and it is so
 filled : (s : Spaces) (rows : List Row) (own : List ℕ) → Filled s rows own (filled_in s rows own).0 (filled_in s rows own).1
@@ -161,8 +160,8 @@ filled (lacks x) rows own = (refl, refl)
 filled all rows own = go (ltb max_rows (length rows)) refl
   where
     go : (b : Bool) → ltb max_rows (length rows) ≡ b
-        → Filled all rows own (pick {A = Inherited × List ℕ} b (inherited.TooMany, own) (inherited.Rows (length rows), with_rows own 0 rows)).0
-        (pick {A = Inherited × List ℕ} b (inherited.TooMany, own) (inherited.Rows (length rows), with_rows own 0 rows)).1
+        → Filled all rows own (pick {A = Inherited × List ℕ} b (Err why.TooMany, own) (Ok (length rows), with_rows own 0 rows)).0
+        (pick {A = Inherited × List ℕ} b (Err why.TooMany, own) (Ok (length rows), with_rows own 0 rows)).1
     go true e = (refl, ltb-true max_rows (length rows) e, refl)
     go false e = (refl, ltb-false max_rows (length rows) e, refl, refl)
 
@@ -191,24 +190,16 @@ module _ (a : code.Above) (issuer own : List ℕ) (n : ℕ) (few : n ≤ max_row
   told : Filled (lacking above.rows rows) whole own x t
   told = rw (← opened) at (filled (lacking above.rows rows) whole own)
 
-  -- a space that the issuer does not have
-  pub inherits_lacks : (s : ℕ) → x ≡ inherited.NoSpace s → (f : Refused) → f ≡ fault_in refusal.NothingToInherit a.certificates (extension_of s) s (halves 0)
-      → (r : Reply) (u : List ℕ) → ◌≡◌ {A = Left} (r, u) (refused f t) → ◌≡◌ {A = Left} (r, u) answer
-  unfolding after_presence
-  inherits_lacks s h f g r u q = let (l, o) = rw h at told in rw l (q ∙ rw (g, o))
-
-  -- too many rows
-  pub inherits_many : x ≡ inherited.TooMany → (f : Refused) → f ≡ fault_at refusal.RowCount a.certificates 0 0 0
+  -- there are no rows
+  pub inherits_not : (y : Uninherited) → x ≡ Err y → (f : Refused) → f ≡ uninherited a.certificates y
       → (r : Reply) (u : List ℕ) → ◌≡◌ {A = Left} (r, u) (refused f t) → ◌≡◌ {A = Left} (r, u) answer
   unfolding after_presence after_inheritance
-  inherits_many h f g r u q = let (l, m, o) = rw h at told in rw (l, lt-ltb max_rows (length whole) m) (q ∙ rw (g, o))
-
-  -- the table is long enough
-  pub inherits_short : x ≡ inherited.Short → (r : Reply) (u : List ℕ) → ◌≡◌ {A = Left} (r, u) answer
-  inherits_short h r u = absurd (rw h at told)
+  inherits_not (why.NoSpace s) h f g r u q = let (l, o) = rw h at told in rw l (q ∙ rw (g, o))
+  inherits_not why.TooMany h f g r u q = let (l, m, o) = rw h at told in rw (l, lt-ltb max_rows (length whole) m) (q ∙ rw (g, o))
+  inherits_not why.Short h f g r u q = absurd (rw h at told)
 
   -- the rows after inheritance, and what the walk says of them
-  pub inherits_holds : (k : ℕ) → x ≡ inherited.Rows k → (r : Reply) (u : List ℕ) → ◌≡◌ {A = Left} (r, u) (held_by k t (hold_step above (rows_in k t))) → ◌≡◌ {A = Left} (r, u) answer
+  pub inherits_holds : (k : ℕ) → x ≡ Ok k → (r : Reply) (u : List ℕ) → ◌≡◌ {A = Left} (r, u) (held_by k t (hold_step above (rows_in k t))) → ◌≡◌ {A = Left} (r, u) answer
   unfolding after_presence after_inheritance
   inherits_holds k h r u q =
       let (l, m, c, o) = rw h at told in
@@ -252,8 +243,8 @@ presence_longer a rows = go (lacking a.rows rows) refl
 
 -- what is left is the same over the rows that were read, and over what was there before
 left_over : (rows : List Row) (t : List ℕ) (s : Step (List Row × ℕ)) → length rows ≤ max_rows → Longer rows s → left s (with_rows t 0 rows) ≡ left s t
-left_over rows t (is h) m l = ap (λ (u : List ℕ). (reply.Accepted (length h.0) h.1, u)) (with_rows_over t 0 rows h.0 l)
-left_over rows t (isnt f) m l = ap (λ (u : List ℕ). (reply.Refused f, u)) (cleared_rows t 0 rows (omega arith))
+left_over rows t (is h) m l = ap (λ (u : List ℕ). (Ok (record { rows = length h.0; pairs = h.1 }), u)) (with_rows_over t 0 rows h.0 l)
+left_over rows t (isnt f) m l = ap (λ (u : List ℕ). (Err f, u)) (cleared_rows t 0 rows (omega arith))
 
 -- so of the steps after the reading
 pub read_again : (a : Above) (rows : List Row) (t : List ℕ) → length rows ≤ max_rows → left (after_presence a rows) (with_rows t 0 rows) ≡ left (after_presence a rows) t

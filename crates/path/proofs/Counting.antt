@@ -8,6 +8,7 @@ use native.Mathlib.Omega.{arith}
 use lib.ListN.{length, take, drop, length-append}
 use lib.Dec.{eqb}
 use borrow.Author.Tests.{eq-eqb, ne_eqb}
+use Rattle.std.specs.Prelude.{Ok, Err}
 use Rattle.number.specs.Tests.{pick}
 use Rattle.number.proofs.Picks.{rest_of}
 use Rattle.table.specs.Sizes.{row_numbers, max_rows}
@@ -15,8 +16,8 @@ use Rattle.table.specs.Rows.{Row, seen, in_halves, room, row_at, rows_of}
 use Rattle.table.specs.declared.rows.Row as code
 use Rattle.table.proofs.laws.Rows.{length_rows_of, rows_split, all_of, rows_cut, rows_first, rows_none}
 use Rattle.path.specs.Inherit.{in_space, inherits, resolved, all, lacks, or_lacks, lacking, replaced, count_of}
-use Rattle.path.specs.declared.inherits.Resolved.TheVariants as count
 use Rattle.path.proofs.Parts.{rows_got, space_yes, space_no, lacking-append, lacking_last, resolved_last, few_replaced}
+use Rattle.path.specs.declared.inherits.Uninherited.TheVariants as uninherited
 
 -- THE ROWS OF A SPACE
 
@@ -107,11 +108,11 @@ tally_start issuer t n h = record { covered = refl; tally = omega arith; upto = 
 
 module _ {issuer : List Row} {t : List ℕ} {n k total : ℕ} (h : Tallying issuer t n k total) where
   -- the loop's end
-  pub tally_end : n ≤ k → count.Rows total ≡ count_of issuer (rows_of n t)
+  pub tally_end : n ≤ k → Ok total ≡ count_of issuer (rows_of n t)
   unfolding count_of
   tally_end p =
       let e : n ≡ k = omega arith in
-      rw (e, h.covered) (ap (λ (i : ℕ). count.Rows i) h.tally)
+      rw (e, h.covered) (ap (λ (i : ℕ). Ok i) h.tally)
 
   module _ (p : k < n) (row : code.Row) (e : row ≡ in_halves (row_at t k)) (more : ℕ) (q : more ≡ length (replaced issuer (seen row))) where
     got : rows_of (k + 1) t ≡ rows_of k t ++ (seen row ∷ [])
@@ -126,7 +127,7 @@ module _ {issuer : List Row} {t : List ℕ} {n k total : ℕ} (h : Tallying issu
     none [] z = refl
     none (r ∷ rs) z = absurd (omega arith)
 
-    pub tally_lacks : more ≡ 0 → count.NoSpace row.space ≡ count_of issuer (rows_of n t)
+    pub tally_lacks : more ≡ 0 → Err (uninherited.NoSpace row.space) ≡ count_of issuer (rows_of n t)
     unfolding count_of
     tally_lacks z =
         let g : n ≡ k + 1 + (n - (k + 1)) = omega arith in

@@ -12,6 +12,7 @@ use native.Mathlib.Omega.{arith}
 use lib.ListN.{length, take, drop}
 use lib.Dec.{ltb}
 use borrow.Author.Tests.{lt-ltb, ne_eqb}
+use Rattle.std.specs.Prelude.{Some, None, Option, Ok, Err}
 use Rattle.number.proofs.Picks.{rest_of}
 use Rattle.table.specs.Sizes.{row_numbers, max_rows, table_numbers}
 use Rattle.table.specs.Rows.{Row, rows_of, rows_in, with_rows, cleared}
@@ -22,16 +23,14 @@ use Rattle.path.specs.Bundle.{length_of, length_in, end_of, on_after, is_values,
 use Rattle.path.specs.Certificate.{Above, Step, onward, carried, certificate, seen_above, checked}
 use Rattle.path.specs.Certificate as one
 use Rattle.path.specs.Paths.{below, descent, Left, tabled, Begun, issuer_of, cleared_rest, Full, Descending, placed, ends, descended}
-use Rattle.path.specs.declared.bundles.End.{End}
-use Rattle.path.specs.declared.bundles.End.TheVariants as end
-use Rattle.path.specs.declared.replies.Reply.{Reply}
-use Rattle.path.specs.declared.replies.Reply.TheVariants as reply
 use Rattle.path.specs.declared.certificates.Above as code
 use Rattle.path.proofs.Framed.{length-there}
 use Rattle.path.proofs.Framed as framed
 use Rattle.path.proofs.Tabled.{cleared_tabled, rows_tabled, full_tabled, full_clear, full_rows}
 use Rattle.path.proofs.Overwritten.{rest_tabled}
 use Rattle.path.proofs.Accepting.{Accepts, refuses, accepts, Small, certificate_small}
+use Rattle.path.specs.Replies.{Reply}
+use Rattle.path.specs.declared.replies.Accepted.{Accepted}
 
 -- THE VALUES
 
@@ -45,9 +44,9 @@ begins : (k : ℕ) (s : List ℕ) → is_values (suc k) s ≡ true → Next k s
 unfolding is_values
 begins k s h = go (end_of s) refl h
   where
-    go : (r : End) → end_of s ≡ r → on_after r (λ e. is_values k (drop e s)) ≡ true → Next k s
-    go end.Cut p q = let z : ◌≡◌ {A = ℕ} 0 1 = cc in absurd (omega arith)
-    go (end.At e) p q =
+    go : (r : Option ℕ) → end_of s ≡ r → on_after r (λ e. is_values k (drop e s)) ≡ true → Next k s
+    go None p q = let z : ◌≡◌ {A = ℕ} 0 1 = cc in absurd (omega arith)
+    go (Some e) p q =
         let w = framed.ends s e p in
         record { here = record { inside = omega arith }; on = subst (λ (i : ℕ). is_values k (drop i s) ≡ true) w.is q }
 
@@ -88,8 +87,8 @@ swapped x = (x.0, x.2, x.1)
 -- so a refusal, or the rows, end where the definition says
 ends_next : (k : ℕ) (s : Step (List Row × ℕ)) (own issuer own' : List ℕ) → cleared table_numbers own' ≡ cleared table_numbers own → swapped (ends k s issuer own') ≡ ends (suc k) s own issuer
 unfolding swapped
-ends_next k (is h) own issuer own' p = ap (λ (x : List ℕ × List ℕ). (reply.Accepted (length h.0) h.1, x.1, x.0)) (placed_alike k h.0 issuer own' issuer own refl p)
-ends_next k (isnt f) own issuer own' p = ap (λ (x : List ℕ). (reply.Refused f, x, cleared table_numbers issuer)) p
+ends_next k (is h) own issuer own' p = ap (λ (x : List ℕ × List ℕ). (Ok (record { rows = length h.0; pairs = h.1 }), x.1, x.0)) (placed_alike k h.0 issuer own' issuer own refl p)
+ends_next k (isnt f) own issuer own' p = ap (λ (x : List ℕ). (Err f, x, cleared table_numbers issuer)) p
 
 -- ONE CERTIFICATE
 
@@ -110,11 +109,11 @@ module _ {left : ℕ} {rest own : List ℕ} {old : ℕ} {issuer : List ℕ} {abo
   clear_fits = omega (arith, d.ours.few)
 
   -- no certificate is left: the last one's rows are in the issuer's table
-  pub descend_end : left ≡ 0 → (t : List ℕ) → t ≡ cleared (row_numbers * old) own → ◌≡◌ {A = Left} (reply.Accepted above.rows pairs, t, issuer) (descended left rest own issuer above pairs)
+  pub descend_end : left ≡ 0 → (t : List ℕ) → t ≡ cleared (row_numbers * old) own → ◌≡◌ {A = Left} (Ok (record { rows = above.rows; pairs = pairs }), t, issuer) (descended left rest own issuer above pairs)
   unfolding descended descent
   descend_end z t p =
       rw (z, p, full_clear old own d.ours)
-      (ap₂ (λ (n : ℕ) (i : List ℕ). (reply.Accepted n pairs, cleared table_numbers own, i)) (sym count_theirs) (d.theirs.rows ∙ ap (λ (rs : List Row). tabled issuer rs) (sym theirs)))
+      (ap₂ (λ (n : ℕ) (i : List ℕ). (Ok (record { rows = n; pairs = pairs }), cleared table_numbers own, i)) (sym count_theirs) (d.theirs.rows ∙ ap (λ (rs : List Row). tabled issuer rs) (sym theirs)))
 
   module _ (some : left ≡ 0 → ⊥) where
     -- two values are there, and so are those of the certificates after
@@ -147,16 +146,23 @@ module _ {left : ℕ} {rest own : List ℕ} {old : ℕ} {issuer : List ℕ} {abo
             ap (λ (i : ℕ). descended i rest own issuer above pairs) z ∙ rw (← k, v, u, q)
 
         -- it is refused
-        pub descend_refused : {f : Refused} {issuer' : List ℕ} → r ≡ reply.Refused f → issuer' ≡ cleared table_numbers issuer → ◌≡◌ {A = Left} (reply.Refused f, own₁, issuer') (descended left rest own issuer above pairs)
+        pub descend_refused : {f : Refused} {issuer' : List ℕ} → r ≡ Err f → issuer' ≡ cleared table_numbers issuer → ◌≡◌ {A = Left} (Err f, own₁, issuer') (descended left rest own issuer above pairs)
         descend_refused {f} y w =
             let t = refuses a ip ids own r own₁ d.ours.long e f y in
-            ap₂ (λ (o i : List ℕ). (reply.Refused f, o, i)) t.table w ∙ sym (opened (isnt f) t.so)
+            ap₂ (λ (o i : List ℕ). (Err f, o, i)) t.table w ∙ sym (opened (isnt f) t.so)
 
         -- it is accepted: its rows are in its own table, over the old ones
-        module _ {n more : ℕ} (y : r ≡ reply.Accepted n more) where
+        module _ {done : Accepted} (y : r ≡ Ok done) where
+          -- so many rows and pairs
+          abbrev n : ℕ
+          n = done.rows
+
+          abbrev more : ℕ
+          more = done.pairs
+
           -- what was accepted, which is not much
           t : Accepts a ip ids own own₁ n more
-          t = accepts a ip ids own r own₁ d.ours.long e n more y
+          t = accepts a ip ids own r own₁ d.ours.long e done y
 
           small : Small a t.held
           small = certificate_small a t.held ip ids t.so

@@ -7,21 +7,21 @@ use native.Mathlib.Omega.{arith}
 use lib.Dec.{eqb}
 use lib.ListN.{length, get_or}
 use borrow.Author.Tests.{lt-ltb, le-ltb}
+use Rattle.std.specs.Prelude.{Ok, Err}
 use Rattle.number.proofs.Picks.{pick_not}
 use Rattle.table.specs.Sizes.{max_rows, table_numbers}
 use Rattle.table.specs.Rows.{Row, room, rows_of, rows_in, with_rows}
 use Rattle.table.proofs.laws.Rows.{length_rows_of, with_rows_same}
-use Rattle.path.specs.Inherit.{resolved, Spaces, all, lacks, lacking, filled_in, inherit, inherits, told, count_of, Filling}
-use Rattle.path.specs.declared.inherits.Inherited.TheVariants as code
-use Rattle.path.specs.declared.inherits.Resolved.{Resolved}
-use Rattle.path.specs.declared.inherits.Resolved.TheVariants as count
+use Rattle.path.specs.Inherit.{resolved, Spaces, all, lacks, lacking, filled_in, inherit, inherits, told, count_of, Filling, Inherited}
+use Rattle.path.specs.declared.inherits.Uninherited.{Uninherited}
+use Rattle.path.specs.declared.inherits.Uninherited.TheVariants as uninherited
 
 -- a count tells which spaces are lacking
-was_lacking : (s : Spaces) (k t : ℕ) → count.NoSpace t ≡ told s k → s ≡ lacks t
-was_lacking all k t e = let z : ◌≡◌ {A = ℕ} 0 1 = cc in absurd (omega arith)
-was_lacking (lacks x) k t e = let q : t ≡ x = cc in ap (λ (i : ℕ). lacks i) (sym q)
+was_lacking : (s : Spaces) (k : ℕ) (x : Uninherited) → Err x ≡ told s k → (t : ℕ) × (s ≡ lacks t) × (x ≡ uninherited.NoSpace t)
+was_lacking all k x e = let z : ◌≡◌ {A = ℕ} 0 1 = cc in absurd (omega arith)
+was_lacking (lacks t) k x e = (t, refl, cc)
 
-was_all : (s : Spaces) (k n : ℕ) → count.Rows n ≡ told s k → (s ≡ all) × (n ≡ min k (max_rows + 1))
+was_all : (s : Spaces) (k n : ℕ) → Ok n ≡ told s k → (s ≡ all) × (n ≡ min k (max_rows + 1))
 was_all all k n e = let q : n ≡ min k (max_rows + 1) = cc in (refl, q)
 was_all (lacks x) k n e = let z : ◌≡◌ {A = ℕ} 0 1 = cc in absurd (omega arith)
 
@@ -30,7 +30,7 @@ pub count_there : (n b k : ℕ) → k ≡ min n b → k ≤ b
 count_there n b k e = omega arith
 
 -- a table that is too short
-pub inherit_short : (n : ℕ) (own : List ℕ) (m : ℕ) (issuer : List ℕ) → length own < table_numbers → (code.Short, own) ≡ inherit n own m issuer
+pub inherit_short : (n : ℕ) (own : List ℕ) (m : ℕ) (issuer : List ℕ) → length own < table_numbers → (Err uninherited.Short, own) ≡ inherit n own m issuer
 unfolding inherit
 inherit_short n own m issuer h = rw (lt-ltb (length own) table_numbers h)
 
@@ -53,49 +53,49 @@ module _ (own issuer : List ℕ) (k n m : ℕ) {r : Bool} (e : r ≡ inherits (r
       rw (le-ltb (length own) table_numbers long, ← p)
       (ap₂ (λ (s : Spaces) (rs : List Row). filled_in s rs own) (none_lacking (rows_in m issuer) (rows_of k own) (sym e ∙ f)) (none_resolved (rows_in m issuer) (rows_of k own) (sym e ∙ f)))
 
-  pub none_many : max_rows < k → (code.TooMany, own) ≡ inherit n own m issuer
+  pub none_many : max_rows < k → (Err uninherited.TooMany, own) ≡ inherit n own m issuer
   none_many h = sym (none_is ∙ rw (length_rows_of k own, lt-ltb max_rows k h) refl)
 
-  pub none_rows : k ≤ max_rows → ((i : ℕ) → get_or own i 0 < 2 ^ 64) → (code.Rows k, own) ≡ inherit n own m issuer
+  pub none_rows : k ≤ max_rows → ((i : ℕ) → get_or own i 0 < 2 ^ 64) → (Ok k, own) ≡ inherit n own m issuer
   none_rows h l =
       let w : with_rows own 0 (rows_of k own) ≡ own = with_rows_same k 0 own (omega arith) l in
-      sym (none_is ∙ rw (length_rows_of k own, le-ltb max_rows k h) (ap (λ (x : List ℕ). (code.Rows k, x)) w))
+      sym (none_is ∙ rw (length_rows_of k own, le-ltb max_rows k h) (ap (λ (x : List ℕ). (Ok k, x)) w))
 
-module _ (own issuer : List ℕ) (k j : ℕ) (r : Resolved) (e : r ≡ count_of (rows_of j issuer) (rows_of k own)) where
+module _ (own issuer : List ℕ) (k j : ℕ) (r : Inherited) (e : r ≡ count_of (rows_of j issuer) (rows_of k own)) where
   -- the rows after inheritance
   abbrev rows : List Row
   rows = resolved (rows_of j issuer) (rows_of k own)
 
   -- what was found: a space that the issuer does not have, or how many rows they are
-  no_space : (t : ℕ) → r ≡ count.NoSpace t → lacking (rows_of j issuer) (rows_of k own) ≡ lacks t
+  no_space : (x : Uninherited) → r ≡ Err x → (t : ℕ) × (lacking (rows_of j issuer) (rows_of k own) ≡ lacks t) × (x ≡ uninherited.NoSpace t)
   unfolding count_of
-  no_space t f = was_lacking (lacking (rows_of j issuer) (rows_of k own)) (length rows) t (sym f ∙ e)
+  no_space x f = was_lacking (lacking (rows_of j issuer) (rows_of k own)) (length rows) x (sym f ∙ e)
 
-  found : (total : ℕ) → r ≡ count.Rows total → (lacking (rows_of j issuer) (rows_of k own) ≡ all) × (total ≡ min (length rows) (max_rows + 1))
+  found : (total : ℕ) → r ≡ Ok total → (lacking (rows_of j issuer) (rows_of k own) ≡ all) × (total ≡ min (length rows) (max_rows + 1))
   unfolding count_of
   found total f = was_all (lacking (rows_of j issuer) (rows_of k own)) (length rows) total (sym f ∙ e)
 
   -- where they are not too many, they can be written
-  pub inherit_fills : k ≤ room own → (total : ℕ) → r ≡ count.Rows total → total ≤ max_rows → Filling (rows_of j issuer) own k total
+  pub inherit_fills : k ≤ room own → (total : ℕ) → r ≡ Ok total → total ≤ max_rows → Filling (rows_of j issuer) own k total
   inherit_fills i total f h = let (s, c) = found total f in record { there = i; covered = s; upto = omega (arith, c) }
 
   -- the answers, in a table that is long enough
   module _ (n m : ℕ) (long : table_numbers ≤ length own) (p : k ≡ min n (room own)) (q : j ≡ min m (room issuer)) where
-    pub inherit_lacks : (t : ℕ) → r ≡ count.NoSpace t → (code.NoSpace t, own) ≡ inherit n own m issuer
+    pub inherit_lacks : (x : Uninherited) → r ≡ Err x → (Err x, own) ≡ inherit n own m issuer
     unfolding inherit
-    inherit_lacks t f = rw (le-ltb (length own) table_numbers long, ← p, ← q, no_space t f)
+    inherit_lacks x f = let (t, s, y) = no_space x f in ap (λ (z : Uninherited). (Err z, own)) y ∙ rw (le-ltb (length own) table_numbers long, ← p, ← q, s)
 
-    pub inherit_many : (total : ℕ) → r ≡ count.Rows total → max_rows < total → (code.TooMany, own) ≡ inherit n own m issuer
+    pub inherit_many : (total : ℕ) → r ≡ Ok total → max_rows < total → (Err uninherited.TooMany, own) ≡ inherit n own m issuer
     unfolding inherit
     inherit_many total f h =
         let (s, c) = found total f in
         let b : max_rows < length rows = omega (arith, c) in
         rw (le-ltb (length own) table_numbers long, ← p, ← q, s, lt-ltb max_rows (length rows) b)
 
-    pub inherit_rows : (total : ℕ) → r ≡ count.Rows total → total ≤ max_rows → (u : List ℕ) → u ≡ with_rows own 0 rows → (code.Rows total, u) ≡ inherit n own m issuer
+    pub inherit_rows : (total : ℕ) → r ≡ Ok total → total ≤ max_rows → (u : List ℕ) → u ≡ with_rows own 0 rows → (Ok total, u) ≡ inherit n own m issuer
     unfolding inherit
     inherit_rows total f h u w =
         let (s, c) = found total f in
         let d : total ≡ length rows = omega (arith, c) in
         let b : length rows ≤ max_rows = omega (arith, c) in
-        ap₂ (λ (i : ℕ) (x : List ℕ). (code.Rows i, x)) d w ∙ rw (le-ltb (length own) table_numbers long, ← p, ← q, s, le-ltb max_rows (length rows) b)
+        ap₂ (λ (i : ℕ) (x : List ℕ). (Ok i, x)) d w ∙ rw (le-ltb (length own) table_numbers long, ← p, ← q, s, le-ltb max_rows (length rows) b)

@@ -6,6 +6,7 @@ use Prim.Native.Nat.{ℕ, suc, min, ◌+◌, ◌-◌, ◌*◌, ◌≤◌, ◌<�
 use native.Mathlib.Nat.{sub-zero}
 use native.Mathlib.Omega.{arith}
 use lib.ListN.{length, take, drop, length-take, length-drop}
+use Rattle.std.specs.Prelude.{Some, None}
 use Rattle.number.specs.Tests.{pick}
 use Rattle.number.specs.Halves.{halves}
 use Rattle.number.specs.declared.halves.Halves.{Halves}
@@ -14,7 +15,6 @@ use Rattle.table.specs.Sizes.{row_numbers}
 use Rattle.table.specs.Rows.{Row, room, row_at, rows_in}
 use Rattle.table.proofs.laws.Rows.{all_of, rows_cut, rows_first, rows_none}
 use Rattle.path.specs.Walk.{Walked, within, passed, gap, counted, stopped, against, walk, meet_of, walked_of}
-use Rattle.path.specs.declared.walks.Found.TheVariants as found
 use Rattle.path.specs.declared.walks.Meet.{Meet}
 use Rattle.path.specs.declared.walks.Meet.TheVariants as meet
 use Rattle.path.specs.declared.walks.Walked as answer
@@ -84,12 +84,12 @@ walk_less t h = rw (rest_of row_numbers t, length-drop) (omega arith)
 
 module _ {w : Walked} {left held : List ℕ} {pairs : ℕ} (h : Walking w left held pairs) where
   -- no own row is left
-  pub walk_end : length left < row_numbers → record { found = found.Covered; pairs = pairs } ≡ walked_of w
+  pub walk_end : length left < row_numbers → record { missing = None; pairs = pairs } ≡ walked_of w
   unfolding walk
   walk_end p =
       let s : added pairs (walk [] (all_of held)) ≡ w = rw (rows_none left p) at h.same in
       let e : pairs ≡ pairs + 0 = omega arith in
-      ap (λ (k : ℕ). record { found = found.Covered; pairs = k }) e ∙ ap (λ (y : Walked). walked_of y) s
+      ap (λ (k : ℕ). record { missing = None; pairs = k }) e ∙ ap (λ (y : Walked). walked_of y) s
 
   module _ (p : row_numbers ≤ length left) where
     -- one pair more is a number of the code
@@ -98,12 +98,12 @@ module _ {w : Walked} {left held : List ℕ} {pairs : ℕ} (h : Walking w left h
 
     -- no row of the issuer is left
     pub walk_out : length held < row_numbers → {s : ℕ} {l : Halves} {r : answer.Walked} → s ≡ (row_at left 0).space → l ≡ halves (row_at left 0).low
-        → r ≡ record { found = found.Missing s l; pairs = pairs } → r ≡ walked_of w
+        → r ≡ record { missing = Some (record { space = s; value = l }); pairs = pairs } → r ≡ walked_of w
     unfolding walk against
     walk_out q a b d =
         let s : added pairs (walk (row_at left 0 ∷ all_of (drop row_numbers left)) []) ≡ w = rw (rows_first left p, rows_none held q) at h.same in
         let z : pairs ≡ pairs + 0 = omega arith in
-        d ∙ rw (a, b) (ap (λ (k : ℕ). record { found = found.Missing (row_at left 0).space (halves (row_at left 0).low); pairs = k }) z ∙ ap (λ (y : Walked). walked_of y) s)
+        d ∙ rw (a, b) (ap (λ (k : ℕ). record { missing = Some (record { space = (row_at left 0).space; value = halves (row_at left 0).low }); pairs = k }) z ∙ ap (λ (y : Walked). walked_of y) s)
 
     module _ (q : row_numbers ≤ length held) {x : Meet} (d : x ≡ meet_of (row_at left 0) (row_at held 0)) where
       opened : added pairs (walk (row_at left 0 ∷ all_of (drop row_numbers left)) (row_at held 0 ∷ all_of (drop row_numbers held))) ≡ w
@@ -131,8 +131,8 @@ module _ {w : Walked} {left held : List ℕ} {pairs : ℕ} (h : Walking w left h
           })
 
       -- neither
-      pub walk_stops : {n : Halves} → x ≡ meet.Apart n → {s : ℕ} {r : answer.Walked} → s ≡ (row_at left 0).space → r ≡ record { found = found.Missing s n; pairs = pairs + 1 } → r ≡ walked_of w
+      pub walk_stops : {n : Halves} → x ≡ meet.Apart n → {s : ℕ} {r : answer.Walked} → s ≡ (row_at left 0).space → r ≡ record { missing = Some (record { space = s; value = n }); pairs = pairs + 1 } → r ≡ walked_of w
       walk_stops {n} m e y =
           let (s, g) = halt (row_at left 0) (row_at held 0) (all_of (drop row_numbers left)) (all_of (drop row_numbers held)) n (sym d ∙ m) in
-          y ∙ ap₂ (λ (i : ℕ) (k : Halves). record { found = found.Missing i k; pairs = pairs + 1 }) e g
+          y ∙ ap₂ (λ (i : ℕ) (k : Halves). record { missing = Some (record { space = i; value = k }); pairs = pairs + 1 }) e g
           ∙ ap (λ (k : Walked). walked_of (added pairs k)) (sym s) ∙ ap (λ (k : Walked). walked_of k) opened

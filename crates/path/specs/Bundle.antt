@@ -1,11 +1,8 @@
 -- The bundle of document 01: mark, version, count, then two values with their lengths for each certificate.
-use Rattle.std.specs.Prelude.{ℕ, zero, suc, ◌+◌, ◌*◌, ◌/◌, ◌%◌, List, [], ◌∷◌, ◌++◌, Bool, false, length, get_or, take, drop, ltb, eqb}
+use Rattle.std.specs.Prelude.{ℕ, zero, suc, ◌+◌, ◌*◌, ◌/◌, ◌%◌, List, [], ◌∷◌, ◌++◌, Bool, false, length, get_or, take, drop, ltb, eqb, Ok, Err, Result, Some, None, Option}
 use Rattle.number.specs.Tests.{pick}
 use Rattle.number.specs.declared.refusal.Refusal.TheVariants as refusal
-use Rattle.path.specs.declared.bundles.Framing.{Framing}
-use Rattle.path.specs.declared.bundles.Framing.TheVariants.{Certificates, Refused}
-use Rattle.path.specs.declared.bundles.End.{End}
-use Rattle.path.specs.declared.bundles.End.TheVariants as end
+use Rattle.number.specs.declared.refusal.Refusal.{Refusal}
 
 -- "bundle: 6 to 65,536 octets"; "certificates in a path: 1 to 8"
 abbrev pub least_octets : ℕ
@@ -30,12 +27,12 @@ unfoldable pub length_in : List ℕ → ℕ
 length_in s = pick (ltb (length s) 2) 0 (length_of s)
 
 -- where that value ends, if it is not "cut short"
-unfoldable pub end_of : List ℕ → End
-end_of s = pick (ltb (length s) 2) end.Cut (pick (ltb (length s) (2 + length_of s)) end.Cut (end.At (2 + length_of s)))
+unfoldable pub end_of : List ℕ → Option ℕ
+end_of s = pick (ltb (length s) 2) None (pick (ltb (length s) (2 + length_of s)) None (Some (2 + length_of s)))
 
-abbrev pub on_after : End → (ℕ → Bool) → Bool
-on_after end.Cut go = false
-on_after (end.At e) go = go e
+abbrev pub on_after : Option ℕ → (ℕ → Bool) → Bool
+on_after None go = false
+on_after (Some e) go = go e
 
 -- so many values, and no "octets over"
 unfoldable pub is_values : ℕ → List ℕ → Bool
@@ -53,15 +50,15 @@ is_marked b =
     (eqb (get_or b 4 0) 1) false) false) false) false)
 
 -- "Path order: .. length 18, 17, 12, framing 18"
-unfoldable pub frame_of : List ℕ → Framing
+unfoldable pub frame_of : List ℕ → Result ℕ Refusal
 frame_of b =
-    pick (ltb (length b) least_octets) (Refused refusal.Framing)
-    (pick (ltb most_octets (length b)) (Refused refusal.Framing)
+    pick (ltb (length b) least_octets) (Err refusal.Framing)
+    (pick (ltb most_octets (length b)) (Err refusal.Framing)
     (pick (is_marked b)
-    (pick (eqb (get_or b 5 0) 0) (Refused refusal.CertificateCount)
-    (pick (ltb most_certificates (get_or b 5 0)) (Refused refusal.CertificateCount)
-    (pick (is_values (2 * get_or b 5 0) (drop bundle_head b)) (Certificates (get_or b 5 0)) (Refused refusal.Framing))))
-    (Refused refusal.Mark)))
+    (pick (eqb (get_or b 5 0) 0) (Err refusal.CertificateCount)
+    (pick (ltb most_certificates (get_or b 5 0)) (Err refusal.CertificateCount)
+    (pick (is_values (2 * get_or b 5 0) (drop bundle_head b)) (Ok (get_or b 5 0)) (Err refusal.Framing))))
+    (Err refusal.Mark)))
 
 -- the value that s begins with, and what comes after it
 abbrev pub value_in : List ℕ → List ℕ

@@ -1,5 +1,5 @@
 -- One certificate's check as document 01 orders its steps: "IP value, AS value, 13 for IP, 13 for AS, 14 by space, 11, 15". A definition that runs.
-use Rattle.std.specs.Prelude.{ℕ, List, [], ◌++◌, Bool, true, false, length, ltb, eqb}
+use Rattle.std.specs.Prelude.{ℕ, List, [], ◌++◌, Bool, true, false, length, ltb, eqb, Ok, Err}
 use Rattle.number.specs.Tests.{pick}
 use Rattle.number.specs.declared.refusal.Refusal.TheVariants as refusal
 use Rattle.table.specs.Sizes.{max_rows, table_numbers}
@@ -12,9 +12,9 @@ use Rattle.values.specs.Readings.{naming}
 use Rattle.values.specs.declared.readings.Refused.{Refused}
 use Rattle.path.specs.Walk.{Result, covered, missing, walk}
 use Rattle.path.specs.Inherit.{Spaces, all, lacks, lacking, resolved}
-use Rattle.path.specs.Replies.{fault_at, extension_of}
-use Rattle.path.specs.declared.replies.Reply.{Reply}
-use Rattle.path.specs.declared.replies.Reply.TheVariants as reply
+use Rattle.path.specs.Replies.{fault_at, extension_of, Reply}
+use Rattle.path.specs.declared.inherits.Uninherited.{Uninherited}
+use Rattle.path.specs.declared.inherits.Uninherited.TheVariants as why
 use Rattle.path.specs.declared.certificates.Above as code
 
 -- what the certificates above leave for the next one: how many they are; of the last of them, the issuer, the rows after inheritance and which extensions it carries
@@ -118,21 +118,27 @@ seen_above a issuer = record { certificates = a.certificates; rows = rows_in a.r
 
 -- a refusal leaves zeros
 abbrev pub refused : Refused → List ℕ → Left
-refused f t = (reply.Refused f, cleared table_numbers t)
+refused f t = (Err f, cleared table_numbers t)
 
 -- the reply, and the rows in the table t
 abbrev pub left : Step (List Row × ℕ) → List ℕ → Left
-left (is h) t = (reply.Accepted (length h.0) h.1, with_rows t 0 h.0)
+left (is h) t = (Ok (record { rows = length h.0; pairs = h.1 }), with_rows t 0 h.0)
 left (isnt f) t = refused f t
+
+-- why a certificate has no rows after inheritance, as its refusal
+abbrev pub uninherited : ℕ → Uninherited → Refused
+uninherited k (why.NoSpace s) = fault_at refusal.NothingToInherit k (extension_of s) s 0
+uninherited k why.TooMany = fault_at refusal.RowCount k 0 0 0
+uninherited k why.Short = fault_at refusal.TableShort 0 0 0 0
 
 -- a table too short
 abbrev pub short : List ℕ → Left
-short t = (reply.Refused (fault_at refusal.TableShort 0 0 0 0), t)
+short t = (Err (fault_at refusal.TableShort 0 0 0 0), t)
 
 unfoldable pub checked : Above → List ℕ → List ℕ → List ℕ → Left
 checked a ip ids t = pick (ltb (length t) table_numbers) (short t) (left (certificate a ip ids) t)
 
 -- the last step over the n rows that the table has
 abbrev pub held_by : ℕ → List ℕ → Step (List Row × ℕ) → Left
-held_by n t (is h) = (reply.Accepted n h.1, t)
+held_by n t (is h) = (Ok (record { rows = n; pairs = h.1 }), t)
 held_by n t (isnt f) = refused f t

@@ -1,19 +1,21 @@
 -- Rows after inheritance: "A certificate holds in a space what it lists there; where it inherits, what its issuer holds there; else nothing."
-use Rattle.std.specs.Prelude.{ℕ, min, ◌+◌, ◌-◌, ◌≤◌, ◌≡◌, List, [], ◌∷◌, ◌++◌, Bool, true, false, length, ltb, eqb}
+use Rattle.std.specs.Prelude.{ℕ, min, ◌+◌, ◌-◌, ◌≤◌, ◌≡◌, List, [], ◌∷◌, ◌++◌, Bool, true, false, length, ltb, eqb, Result, Ok, Err}
 use Rattle.number.specs.Tests.{pick}
 use Rattle.table.specs.Sizes.{max_rows, table_numbers}
 use Rattle.table.specs.Rows.{Row, room, rows_of, rows_in, with_rows}
 use Rattle.table.specs.Holdings.{Has, Holds}
-use Rattle.path.specs.declared.inherits.Inherited.{Inherited}
-use Rattle.path.specs.declared.inherits.Inherited.TheVariants as code
-use Rattle.path.specs.declared.inherits.Resolved.{Resolved}
-use Rattle.path.specs.declared.inherits.Resolved.TheVariants as count
+use Rattle.path.specs.declared.inherits.Uninherited.{Uninherited}
+use Rattle.path.specs.declared.inherits.Uninherited.TheVariants as uninherited
 
 -- what a certificate with these rows holds, below an issuer whose rows hold what the issuer holds
 pub data Keeps (issuer : List Row) (s n : ℕ) : List Row → Type 0 where
   listed : {r : Row} {rs : List Row} → Has r s n → Keeps issuer s n (r ∷ rs)
   inherited : {r : Row} {rs : List Row} → r.inherit ≡ 1 → r.space ≡ s → Holds s n issuer → Keeps issuer s n (r ∷ rs)
   later : {r : Row} {rs : List Row} → Keeps issuer s n rs → Keeps issuer s n (r ∷ rs)
+
+-- how many rows there are after inheritance, or why there are none
+abbrev pub Inherited : Type 0
+Inherited = Result ℕ Uninherited
 
 -- the rows of one space
 abbrev pub in_space : ℕ → List Row → List Row
@@ -40,12 +42,12 @@ lacking issuer (r ∷ rs) = pick (eqb r.inherit 1) (or_lacks r.space (in_space r
 
 -- "14 by space, 11": the rows are counted after inheritance, and written where they are not too many
 abbrev pub filled_in : Spaces → List Row → List ℕ → Inherited × List ℕ
-filled_in (lacks t) rows own = (code.NoSpace t, own)
-filled_in all rows own = pick (ltb max_rows (length rows)) (code.TooMany, own) (code.Rows (length rows), with_rows own 0 rows)
+filled_in (lacks t) rows own = (Err (uninherited.NoSpace t), own)
+filled_in all rows own = pick (ltb max_rows (length rows)) (Err uninherited.TooMany, own) (Ok (length rows), with_rows own 0 rows)
 
 unfoldable pub inherit : ℕ → List ℕ → ℕ → List ℕ → Inherited × List ℕ
 inherit n own m issuer =
-    pick (ltb (length own) table_numbers) (code.Short, own)
+    pick (ltb (length own) table_numbers) (Err uninherited.Short, own)
     (filled_in (lacking (rows_in m issuer) (rows_in n own)) (resolved (rows_in m issuer) (rows_in n own)) own)
 
 -- WHAT THE CODE SAYS
@@ -60,11 +62,11 @@ abbrev pub replaced : List Row → Row → List Row
 replaced issuer r = pick (eqb r.inherit 1) (in_space r.space issuer) (r ∷ [])
 
 -- a space that the issuer does not have, or how many rows there are after inheritance: one more than a table has stands for all that are too many
-abbrev pub told : Spaces → ℕ → Resolved
-told (lacks t) k = count.NoSpace t
-told all k = count.Rows (min k (max_rows + 1))
+abbrev pub told : Spaces → ℕ → Inherited
+told (lacks t) k = Err (uninherited.NoSpace t)
+told all k = Ok (min k (max_rows + 1))
 
-unfoldable pub count_of : List Row → List Row → Resolved
+unfoldable pub count_of : List Row → List Row → Inherited
 count_of issuer rows = told (lacking issuer rows) (length (resolved issuer rows))
 
 -- rows written up to row `end`, and where they start

@@ -1,5 +1,5 @@
 -- The path check: certificates from the anchor down, each against its issuer. "All of one certificate comes before the next." A definition that runs.
-use Rattle.std.specs.Prelude.{ℕ, zero, suc, ◌+◌, ◌-◌, ◌*◌, ◌^◌, ◌≤◌, ◌<◌, ◌≡◌, List, [], ◌∷◌, ◌++◌, true, length, take, drop, ltb}
+use Rattle.std.specs.Prelude.{ℕ, zero, suc, ◌+◌, ◌-◌, ◌*◌, ◌^◌, ◌≤◌, ◌<◌, ◌≡◌, List, [], ◌∷◌, ◌++◌, true, length, take, drop, ltb, Ok, Err, Result}
 use Rattle.number.specs.Tests.{pick}
 use Rattle.number.specs.declared.refusal.Refusal.{Refusal}
 use Rattle.number.specs.declared.refusal.Refusal.TheVariants as refusal
@@ -7,12 +7,8 @@ use Rattle.table.specs.Sizes.{row_numbers, max_rows, table_numbers}
 use Rattle.table.specs.Rows.{Row, rows_of, with_rows, cleared}
 use Rattle.der.specs.Parts.{is, isnt}
 use Rattle.path.specs.Bundle.{most_certificates, bundle_head, length_of, is_values, frame_of, certificates_in}
-use Rattle.path.specs.Replies.{fault_at}
+use Rattle.path.specs.Replies.{fault_at, Reply}
 use Rattle.path.specs.Certificate.{Above, anchor, Step, onward, carried, certificate, seen_above}
-use Rattle.path.specs.declared.bundles.Framing.{Framing}
-use Rattle.path.specs.declared.bundles.Framing.TheVariants as framing
-use Rattle.path.specs.declared.replies.Reply.{Reply}
-use Rattle.path.specs.declared.replies.Reply.TheVariants as reply
 use Rattle.path.specs.declared.certificates.Above as code
 
 -- an IP value and an AS value, empty where absent
@@ -29,9 +25,9 @@ descent a pairs [] = is (a.rows, pairs)
 descent a pairs (c ∷ cs) = onward (certificate a c.0 c.1) (λ h. descent (below a c h.0) (pairs + h.1) cs)
 
 -- THE PATH of a bundle: "Path order: .. length 18, 17, 12, framing 18; then per certificate". "Numbers 12 and 16 to 20 name certificate 0 and extension 0"
-abbrev pub on_framing : Framing → (ℕ → Step (List Row × ℕ)) → Step (List Row × ℕ)
-on_framing (framing.Refused r) next = isnt (fault_at r 0 0 0 0)
-on_framing (framing.Certificates n) next = next n
+abbrev pub on_framing : Result ℕ Refusal → (ℕ → Step (List Row × ℕ)) → Step (List Row × ℕ)
+on_framing (Err r) next = isnt (fault_at r 0 0 0 0)
+on_framing (Ok n) next = next n
 
 unfoldable pub path_of : List ℕ → Step (List Row × ℕ)
 path_of b = on_framing (frame_of b) (λ n. descent anchor 0 (certificates_in n (drop bundle_head b)))
@@ -44,11 +40,11 @@ abbrev pub tabled : List ℕ → List Row → List ℕ
 tabled t rows = with_rows (cleared table_numbers t) 0 rows
 
 abbrev pub leaves : Step (List Row × ℕ) → List ℕ → List ℕ → Left
-leaves (is h) first second = (reply.Accepted (length h.0) h.1, tabled first h.0, cleared table_numbers second)
-leaves (isnt f) first second = (reply.Refused f, cleared table_numbers first, cleared table_numbers second)
+leaves (is h) first second = (Ok (record { rows = length h.0; pairs = h.1 }), tabled first h.0, cleared table_numbers second)
+leaves (isnt f) first second = (Err f, cleared table_numbers first, cleared table_numbers second)
 
 abbrev pub bare : Refusal → Reply
-bare r = reply.Refused (fault_at r 0 0 0 0)
+bare r = Err (fault_at r 0 0 0 0)
 
 -- "On 16 both tables are unchanged."
 unfoldable pub check : List ℕ → List ℕ → List ℕ → Left
@@ -98,8 +94,8 @@ placed zero rows own issuer = (cleared table_numbers own, tabled issuer rows)
 placed (suc k) rows own issuer = ((placed k rows issuer own).1, (placed k rows issuer own).0)
 
 abbrev pub ends : ℕ → Step (List Row × ℕ) → List ℕ → List ℕ → Left
-ends left (is h) own issuer = (reply.Accepted (length h.0) h.1, (placed left h.0 own issuer).0, (placed left h.0 own issuer).1)
-ends left (isnt f) own issuer = (reply.Refused f, cleared table_numbers own, cleared table_numbers issuer)
+ends left (is h) own issuer = (Ok (record { rows = length h.0; pairs = h.1 }), (placed left h.0 own issuer).0, (placed left h.0 own issuer).1)
+ends left (isnt f) own issuer = (Err f, cleared table_numbers own, cleared table_numbers issuer)
 
 unfoldable pub descended : ℕ → List ℕ → List ℕ → List ℕ → code.Above → ℕ → Left
 descended left rest own issuer above pairs = ends left (descent (seen_above above issuer) pairs (certificates_in left rest)) own issuer

@@ -1,10 +1,15 @@
 -- The reply of the path check. "A refusal names certificate, extension (0 none, 1 IP, 2 AS), place, space and value, and reports 0 rows."
-use Rattle.std.specs.Prelude.{ℕ, ltb}
+use Rattle.std.specs.Prelude.{ℕ, Result, ltb}
 use Rattle.number.specs.Tests.{pick}
 use Rattle.number.specs.Halves.{halves}
 use Rattle.number.specs.declared.refusal.Refusal.{Refusal}
 use Rattle.values.specs.Limits.{ip_extension, as_extension, as_numbers}
 use Rattle.values.specs.declared.readings.Refused.{Refused}
+use Rattle.path.specs.declared.replies.Accepted.{Accepted}
+
+-- "The reply carries the number of row pairs looked at"; "a refusal carries 0"
+abbrev pub Reply : Type 0
+Reply = Result Accepted Refused
 
 -- "Space is set for 14 and 15, value for 15, else 0"
 abbrev pub fault_at : Refusal → ℕ → ℕ → ℕ → ℕ → Refused

@@ -1,9 +1,8 @@
 -- The walk of document 01, "The path", over own and issuer's rows after inheritance: its result and the number of pairs looked at. A definition that runs.
-use Rattle.std.specs.Prelude.{ℕ, suc, ◌+◌, List, [], ◌∷◌, Bool, false, ltb, leb, eqb}
+use Rattle.std.specs.Prelude.{ℕ, suc, ◌+◌, List, [], ◌∷◌, Bool, false, ltb, leb, eqb, Some, None}
 use Rattle.number.specs.Tests.{pick}
 use Rattle.number.specs.Halves.{halves}
 use Rattle.table.specs.Rows.{Row}
-use Rattle.path.specs.declared.walks.Found.TheVariants as found
 use Rattle.path.specs.declared.walks.Meet.{Meet}
 use Rattle.path.specs.declared.walks.Meet.TheVariants as meet
 use Rattle.path.specs.declared.walks.Walked as code
@@ -53,8 +52,8 @@ unfoldable pub meet_of : Row → Row → Meet
 meet_of o i = pick (within o i) meet.Within (pick (passed o i) meet.Passed (meet.Apart (halves (gap o i))))
 
 abbrev pub replied : Result → ℕ → code.Walked
-replied covered k = record { found = found.Covered; pairs = k }
-replied (missing s n) k = record { found = found.Missing s (halves n); pairs = k }
+replied covered k = record { missing = None; pairs = k }
+replied (missing s n) k = record { missing = Some (record { space = s; value = halves n }); pairs = k }
 
 abbrev pub walked_of : Walked → code.Walked
 walked_of w = replied w.result w.pairs

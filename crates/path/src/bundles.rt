@@ -15,20 +15,6 @@ pub const MOST_CERTIFICATES: usize = 8;
 // The octets before the first certificate: mark, version and count.
 pub const HEAD: usize = 6;
 
-// How many certificates a well-framed bundle has; or a refusal.
-#[derive(Clone, Copy)]
-pub enum Framing {
-    Certificates(usize),
-    Refused(Refusal),
-}
-
-// Where a value with its length before it ends; or that it is cut short.
-#[derive(Clone, Copy)]
-pub enum End {
-    At(usize),
-    Cut,
-}
-
 fn wide(x: u8) -> usize
     ensures { (result ≡ x) × (result < 256) }
 {
@@ -45,18 +31,18 @@ pub fn length(s: &[u8]) -> usize
     wide(s[0]) * 256 + wide(s[1])
 }
 
-// Returns where the value ends that s begins with, with its length before it.
-pub fn value_end(s: &[u8]) -> End
+// Returns where the value ends that s begins with, with its length before it; none if it is cut short.
+pub fn value_end(s: &[u8]) -> Option<usize>
     ensures { result ≡ spec.end_of s.now }
 {
     if s.len() < 2 {
-        return End::Cut;
+        return None;
     }
     let end = 2 + length(s);
     if s.len() < end {
-        return End::Cut;
+        return None;
     }
-    End::At(end)
+    Some(end)
 }
 
 // Whether s is so many values, one after another, and nothing after them.
@@ -67,10 +53,10 @@ fn is_values(s: &[u8], count: usize) -> bool
     let mut left = count;
     while 0 < left {
         match value_end(rest) {
-            End::Cut => {
+            None => {
                 return false;
             }
-            End::At(end) => {
+            Some(end) => {
                 rest = &rest[end..];
             }
         }
@@ -102,27 +88,27 @@ fn is_marked(bundle: &[u8]) -> bool
 }
 
 // Returns how many certificates a bundle has, or the refusal: "length 18, 17, 12, framing 18", in this order.
-pub fn frame(bundle: &[u8]) -> Framing
+pub fn frame(bundle: &[u8]) -> Result<usize, Refusal>
     ensures { result ≡ spec.frame_of bundle.now }
 {
     if bundle.len() < LEAST_OCTETS {
-        return Framing::Refused(Refusal::Framing);
+        return Err(Refusal::Framing);
     }
     if MOST_OCTETS < bundle.len() {
-        return Framing::Refused(Refusal::Framing);
+        return Err(Refusal::Framing);
     }
     if !is_marked(bundle) {
-        return Framing::Refused(Refusal::Mark);
+        return Err(Refusal::Mark);
     }
     let count = wide(bundle[5]);
     if count == 0 {
-        return Framing::Refused(Refusal::CertificateCount);
+        return Err(Refusal::CertificateCount);
     }
     if MOST_CERTIFICATES < count {
-        return Framing::Refused(Refusal::CertificateCount);
+        return Err(Refusal::CertificateCount);
     }
     if is_values(&bundle[HEAD..], 2 * count) {
-        return Framing::Certificates(count);
+        return Ok(count);
     }
-    Framing::Refused(Refusal::Framing)
+    Err(Refusal::Framing)
 }

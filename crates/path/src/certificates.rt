@@ -4,9 +4,8 @@ ghost use Rattle.table.specs.Sizes.{max_rows, table_numbers};
 ghost use Rattle.table.specs.Rows.{rows_of, rows_in};
 ghost use Rattle.path.specs.Certificate as spec;
 
-use crate::inherits::Inherited;
-use crate::replies::Reply;
-use crate::walks::Found;
+use crate::inherits::Uninherited;
+use crate::replies::{Accepted, Reply};
 use crate::{inherits, replies, walks};
 use number::halves;
 use number::refusal::Refusal;
@@ -29,7 +28,7 @@ fn refuse(own: &mut [u64], fault: Refused) -> Reply
     ensures { (result, own.new) ≡ spec.refused fault own.old }
 {
     rows::clear(own, rows::NUMBERS);
-    Reply::Refused(fault)
+    Err(fault)
 }
 
 // "15: a held number is not held by the issuer." The anchor has no issuer.
@@ -37,16 +36,39 @@ fn hold(own: &mut [u64], n: usize, issuer: &[u64], above: Above) -> Reply
     ensures { (result, own.new) ≡ spec.held_by n own.old (spec.hold_step (spec.seen_above above issuer.now) (rows_in n own.old)) }
 {
     if above.certificates == 0 {
-        return Reply::Accepted(n, 0);
+        return Ok(Accepted { rows: n, pairs: 0 });
     }
     let walked = walks::walk(own, n, issuer, above.rows);
-    let found = walked.found;
-    match found {
-        Found::Covered => Reply::Accepted(n, walked.pairs),
-        Found::Missing(space, value) => {
-            let fault = replies::fault_in(Refusal::NotHeld, above.certificates, space, value);
+    match walked.missing {
+        None => {
+            let pairs = walked.pairs;
+            Ok(Accepted { rows: n, pairs })
+        }
+        Some(missing) => {
+            let fault = replies::fault_in(
+                Refusal::NotHeld,
+                above.certificates,
+                missing.space,
+                missing.value,
+            );
             refuse(own, fault)
         }
+    }
+}
+
+// Why a certificate has no rows after inheritance, as a refusal.
+fn uninherited(reason: Uninherited, certificate: u64) -> Refused
+    ensures { result ≡ spec.uninherited certificate reason }
+{
+    match reason {
+        Uninherited::NoSpace(space) => replies::fault_in(
+            Refusal::NothingToInherit,
+            certificate,
+            space,
+            halves::ZERO,
+        ),
+        Uninherited::TooMany => readings::naming(Refusal::RowCount, certificate, 0, 0),
+        Uninherited::Short => readings::naming(Refusal::TableShort, 0, 0, 0),
     }
 }
 
@@ -56,24 +78,8 @@ fn inherit(own: &mut [u64], n: usize, issuer: &[u64], above: Above) -> Reply
     ensures { (result, own.new) ≡ spec.left (spec.after_presence (spec.seen_above above issuer.now) (rows_of n own.old)) own.old }
 {
     match inherits::inherit(own, n, issuer, above.rows) {
-        Inherited::Rows(total) => hold(own, total, issuer, above),
-        Inherited::NoSpace(space) => {
-            let fault = replies::fault_in(
-                Refusal::NothingToInherit,
-                above.certificates,
-                space,
-                halves::ZERO,
-            );
-            refuse(own, fault)
-        }
-        Inherited::TooMany => {
-            let fault = readings::naming(Refusal::RowCount, above.certificates, 0, 0);
-            refuse(own, fault)
-        }
-        Inherited::Short => {
-            let fault = readings::naming(Refusal::TableShort, 0, 0, 0);
-            refuse(own, fault)
-        }
+        Ok(total) => hold(own, total, issuer, above),
+        Err(reason) => refuse(own, uninherited(reason, above.certificates)),
     }
 }
 
@@ -101,7 +107,7 @@ pub fn certificate(ip: &[u8], ids: &[u8], own: &mut [u64], issuer: &[u64], above
 {
     if own.len() < rows::NUMBERS {
         let short = readings::naming(Refusal::TableShort, 0, 0, 0);
-        return Reply::Refused(short);
+        return Err(short);
     }
     match readings::step_both(ip, ids, own) {
         Reading::Refused(fault) => {

@@ -6,20 +6,12 @@ ghost use Rattle.path.specs.Inherit as spec;
 use table::rows;
 use table::rows::Row;
 
-// The rows after inheritance; or a space that the issuer does not have (refusal 14), too many rows (11), or a table too short (16).
-#[derive(Clone, Copy)]
-pub enum Inherited {
-    Rows(usize),
+// Why there are no rows after inheritance: a space that the issuer does not have (refusal 14), too many rows (11), or a table too short (16).
+#[derive(Clone, Copy, PartialEq, Eq)]
+pub enum Uninherited {
     NoSpace(u64),
     TooMany,
     Short,
-}
-
-// How many rows a certificate has after inheritance; or a space that the issuer does not have.
-#[derive(Clone, Copy)]
-pub enum Resolved {
-    Rows(usize),
-    NoSpace(u64),
 }
 
 // How many of the issuer's first m rows are in the space.
@@ -51,7 +43,7 @@ fn count_row(row: Row, issuer: &[u64], m: usize) -> usize
 }
 
 // How many rows the first n rows are after inheritance, by the lowest space first. More than a table has are counted as one more.
-fn count_all(own: &[u64], n: usize, issuer: &[u64], m: usize) -> Resolved
+fn count_all(own: &[u64], n: usize, issuer: &[u64], m: usize) -> Result<usize, Uninherited>
     requires { (n ≤ room own.now) × (m ≤ room issuer.now) }
     ensures { result ≡ spec.count_of (rows_of m issuer.now) (rows_of n own.now) }
 {
@@ -61,12 +53,12 @@ fn count_all(own: &[u64], n: usize, issuer: &[u64], m: usize) -> Resolved
         let row = rows::get(own, k);
         let more = count_row(row, issuer, m);
         if more == 0 {
-            return Resolved::NoSpace(row.space);
+            return Err(Uninherited::NoSpace(row.space));
         }
         total = rows::fewer(total + more, rows::ROWS + 1);
         k = k + 1;
     }
-    Resolved::Rows(total)
+    Ok(total)
 }
 
 // Writes the issuer's rows of a space up to row `end`, from the last to the first. Returns where they start.
@@ -131,28 +123,28 @@ fn any_inherits(own: &[u64], n: usize) -> bool
 
 // Replaces each inherit row of the first n rows of `own` by the issuer's rows of its space, of the issuer's first m rows.
 // Returns the rows then; on a refusal `own` is unchanged.
-pub fn inherit(own: &mut [u64], n: usize, issuer: &[u64], m: usize) -> Inherited
+pub fn inherit(own: &mut [u64], n: usize, issuer: &[u64], m: usize) -> Result<usize, Uninherited>
     ensures { (result, own.new) ≡ spec.inherit n own.old m issuer.now }
 {
     if own.len() < rows::NUMBERS {
-        return Inherited::Short;
+        return Err(Uninherited::Short);
     }
     let count = rows::count(own, n);
     if !any_inherits(own, count) {
         if rows::ROWS < count {
-            return Inherited::TooMany;
+            return Err(Uninherited::TooMany);
         }
-        return Inherited::Rows(count);
+        return Ok(count);
     }
     let over = rows::count(issuer, m);
     match count_all(own, count, issuer, over) {
-        Resolved::NoSpace(space) => Inherited::NoSpace(space),
-        Resolved::Rows(total) => {
+        Err(refused) => Err(refused),
+        Ok(total) => {
             if rows::ROWS < total {
-                return Inherited::TooMany;
+                return Err(Uninherited::TooMany);
             }
             put_all(own, count, issuer, over, total);
-            Inherited::Rows(total)
+            Ok(total)
         }
     }
 }

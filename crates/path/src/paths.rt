@@ -5,9 +5,8 @@ ghost use Rattle.path.specs.Bundle.{value_in, after_value, certificates_in};
 ghost use Rattle.path.specs.Certificate.{anchor};
 ghost use Rattle.path.specs.Paths as spec;
 
-use crate::bundles::Framing;
 use crate::certificates::Above;
-use crate::replies::Reply;
+use crate::replies::{Accepted, Reply};
 use crate::{bundles, certificates};
 use number::refusal::Refusal;
 use table::rows;
@@ -18,7 +17,7 @@ fn refused(refusal: Refusal) -> Reply
     ensures { result ≡ spec.bare refusal }
 {
     let fault = readings::naming(refusal, 0, 0, 0);
-    Reply::Refused(fault)
+    Err(fault)
 }
 
 // Returns the value that s begins with, its length before it.
@@ -78,17 +77,21 @@ fn descend(
 {
     if left == 0 {
         rows::clear(own, rows::ROW * old);
-        return Reply::Accepted(above.rows, pairs);
+        return Ok(Accepted {
+            rows: above.rows,
+            pairs,
+        });
     }
     let ip = value(rest);
     let after = after_value(rest);
     let ids = value(after);
     match certificates::certificate(ip, ids, own, issuer, above) {
-        Reply::Refused(fault) => {
+        Err(fault) => {
             rows::clear(issuer, rows::NUMBERS);
-            Reply::Refused(fault)
+            Err(fault)
         }
-        Reply::Accepted(n, more) => {
+        Ok(done) => {
+            let n = done.rows;
             clear_rest(own, n, old);
             let next = below(above, ip, ids, n);
             descend(
@@ -98,7 +101,7 @@ fn descend(
                 above.rows,
                 own,
                 next,
-                pairs + more,
+                pairs + done.pairs,
             )
         }
     }
@@ -136,7 +139,7 @@ pub fn check(bundle: &[u8], first: &mut [u64], second: &mut [u64]) -> Reply
     rows::clear(first, rows::NUMBERS);
     rows::clear(second, rows::NUMBERS);
     match bundles::frame(bundle) {
-        Framing::Refused(refusal) => refused(refusal),
-        Framing::Certificates(count) => descend_all(count, &bundle[bundles::HEAD..], first, second),
+        Err(refusal) => refused(refusal),
+        Ok(count) => descend_all(count, &bundle[bundles::HEAD..], first, second),
     }
 }

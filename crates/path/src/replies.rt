@@ -10,11 +10,12 @@ use values::readings::Refused;
 
 // "The reply carries the number of row pairs looked at"; "a refusal carries 0".
 #[derive(Clone, Copy)]
-pub enum Reply {
-    // rows, pairs
-    Accepted(usize, usize),
-    Refused(Refused),
+pub struct Accepted {
+    pub rows: usize,
+    pub pairs: usize,
 }
+
+pub type Reply = Result<Accepted, Refused>;
 
 // Returns the refusal 14 or 15 in a space: "their extension follows from the space".
 pub fn fault_in(refusal: Refusal, certificate: u64, space: u64, value: Halves) -> Refused

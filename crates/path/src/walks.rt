@@ -1,24 +1,24 @@
 // The walk over own and issuer's rows, after inheritance, with the number of row pairs looked at.
-ghost use Rattle.std.specs.Prelude.{◌≡◌};
+ghost use Rattle.std.specs.Prelude.{◌≡◌, Some};
 ghost use Rattle.table.specs.Rows.{row_at, rows_in};
 ghost use Rattle.path.specs.Walk as spec;
-ghost use Rattle.path.specs.declared.walks.Found.TheVariants as variants;
 
 use number::halves;
 use number::halves::Halves;
 use table::rows;
 
-// Whether the issuer holds all that the certificate holds; or the smallest number that it does not, space first.
+// A number that the certificate holds and the issuer does not.
 #[derive(Clone, Copy)]
-pub enum Found {
-    Covered,
-    Missing(u64, Halves),
+pub struct Missing {
+    pub space: u64,
+    pub value: Halves,
 }
 
+// The smallest number that is missing, space first; none if the issuer holds all that the certificate holds.
 // "The reply carries the number of row pairs looked at."
 #[derive(Clone, Copy)]
 pub struct Walked {
-    pub found: Found,
+    pub missing: Option<Missing>,
     pub pairs: usize,
 }
 
@@ -66,12 +66,15 @@ fn how(own: &[u64], issuer: &[u64]) -> Meet
     Meet::Apart(low)
 }
 
-fn missing(space: u64, low: Halves, pairs: usize) -> Walked
-    ensures { result ≡ record { found = variants.Missing space low; pairs = pairs } }
+fn stopped(space: u64, low: Halves, pairs: usize) -> Walked
+    ensures { result ≡ record { missing = Some (record { space = space; value = low }); pairs = pairs } }
 {
-    let found = Found::Missing(space, low);
+    let number = Missing {
+        space: space,
+        value: low,
+    };
     Walked {
-        found: found,
+        missing: Some(number),
         pairs: pairs,
     }
 }
@@ -88,7 +91,7 @@ pub fn walk(own: &[u64], n: usize, issuer: &[u64], m: usize) -> Walked
     let mut pairs: usize = 0;
     while rows::ROW <= left.len() {
         if held.len() < rows::ROW {
-            return missing(rows::space(left, 0), rows::low(left, 0), pairs);
+            return stopped(rows::space(left, 0), rows::low(left, 0), pairs);
         }
         pairs = pairs + 1;
         match how(left, held) {
@@ -99,13 +102,12 @@ pub fn walk(own: &[u64], n: usize, issuer: &[u64], m: usize) -> Walked
                 held = &held[rows::ROW..];
             }
             Meet::Apart(first) => {
-                return missing(rows::space(left, 0), first, pairs);
+                return stopped(rows::space(left, 0), first, pairs);
             }
         }
     }
-    let found = Found::Covered;
     Walked {
-        found: found,
+        missing: None,
         pairs: pairs,
     }
 }

@@ -1,12 +1,11 @@
 -- The report: the text of a reply and its table, in a lent run of octets.
-use Rattle.std.specs.Prelude.{ℕ, min, ◌+◌, List, length, ltb}
+use Rattle.std.specs.Prelude.{ℕ, min, ◌+◌, List, length, ltb, Ok, Err}
 use Rattle.number.specs.Tests.{pick}
 use Rattle.table.specs.Sizes.{max_rows}
 use Rattle.table.specs.Rows.{rows_in}
 use Rattle.der.specs.Written.{written}
-use Rattle.path.specs.declared.replies.Reply.{Reply}
-use Rattle.path.specs.declared.replies.Reply.TheVariants as reply
 use Rattle.report.specs.Text.{ok_text, no_text}
+use Rattle.path.specs.Replies.{Reply}
 
 -- characters at a place of the run, and the place after them
 abbrev pub put : List ℕ → ℕ → List ℕ → ℕ × List ℕ
@@ -14,8 +13,8 @@ put out at s = (at + length s, written out at s)
 
 -- the text of a reply; of a table no more rows than a certificate may have
 unfoldable pub text_of : Reply → List ℕ → List ℕ
-text_of (reply.Accepted count pairs) table = ok_text count pairs (rows_in (min count max_rows) table)
-text_of (reply.Refused f) table = no_text f
+text_of (Ok x) table = ok_text x.rows x.pairs (rows_in (min x.rows max_rows) table)
+text_of (Err f) table = no_text f
 
 -- room for any report
 abbrev pub room_for : ℕ

@@ -17,10 +17,10 @@ pub fn report(reply: Reply, table: &[u64], out: &mut [u8]) -> usize
         return 0;
     }
     match reply {
-        Reply::Accepted(count, pairs) => {
-            let most = rows::fewer(count, rows::ROWS);
-            crate::put_ok(out, count, pairs, table, rows::count(table, most))
+        Ok(done) => {
+            let most = rows::fewer(done.rows, rows::ROWS);
+            crate::put_ok(out, done.rows, done.pairs, table, rows::count(table, most))
         }
-        Reply::Refused(fault) => crate::put_no(out, fault),
+        Err(fault) => crate::put_no(out, fault),
     }
 }

@@ -8,6 +8,7 @@ use mathlib.Core.Logic.{◌⊎◌, inl, inr}
 use Prim.Native.Nat.{ℕ, ◌≤◌, ◌<◌}
 use native.Mathlib.Omega.{arith}
 use lib.ListN.{length}
+use Rattle.std.specs.Prelude.{Err}
 use Rattle.number.proofs.Picks.{below}
 use Rattle.table.specs.Sizes.{table_numbers}
 use Rattle.table.specs.Rows.{Row}
@@ -15,7 +16,6 @@ use Rattle.values.specs.declared.readings.Refused.{Refused}
 use Rattle.path.specs.Certificate.{Step}
 use Rattle.path.specs.Paths.{Left, leaves, check}
 use Rattle.path.specs.Demand.{Certificate, bundle, Framed, Smaller, Missing, NoSpace, Fault, First}
-use Rattle.path.specs.declared.replies.Reply.TheVariants as reply
 use Rattle.path.proofs.laws.Descents.{Outcome, passing_right, passing_few, no_fault, stop_first}
 use Rattle.path.proofs.laws.Path.{outcome, check_is}
 
@@ -101,9 +101,9 @@ first_only {path} {f} {g} h k = go (places h.above h.certificate h.below k.above
 
 -- Where a well-framed bundle has a first certificate at fault, the check refuses with its fault.
 pub fault_refused : (path : List Certificate) (first second : List ℕ) → Framed path → table_numbers ≤ length first → table_numbers ≤ length second
-    → (f : Refused) → First path f → (check (bundle path) first second).0 ≡ reply.Refused f
+    → (f : Refused) → First path f → (check (bundle path) first second).0 ≡ Err f
 fault_refused path first second w l m f d = ap (λ (x : Left). x.0) (check_is (bundle path) first second l m) ∙ go (outcome path w)
   where
-    go : {o : Step (List Row × ℕ)} → Outcome [] path o → (leaves o first second).0 ≡ reply.Refused f
+    go : {o : Step (List Row × ℕ)} → Outcome [] path o → (leaves o first second).0 ≡ Err f
     go (Outcome.passes a) = absurd (no_fault path d.above d.certificate d.below d.is (passing_right path a) (passing_few path a) d.fault)
-    go (Outcome.stops {f = g} s) = ap (λ (x : Refused). reply.Refused x) (first_only (stop_first path g s) d)
+    go (Outcome.stops {f = g} s) = ap (λ (x : Refused). Err x) (first_only (stop_first path g s) d)

@@ -11,19 +11,17 @@ use lib.ListN.{length, get_or, take, drop, length-append, take-append-drop}
 use lib.Dec.{ltb, eqb}
 use lib.Seq.{length-take-le, drop-cons, drop-drop, take-append_seam, drop-append_seam}
 use borrow.Author.Tests.{eqb-true}
+use Rattle.std.specs.Prelude.{Ok, Some, None, Option}
 use Rattle.number.specs.Octets.{Octets}
 use Rattle.number.proofs.Picks.{picks, pick_not, pick_is}
 use Rattle.number.proofs.laws.Octets.{octets-drop}
 use Rattle.path.specs.Bundle.{least_octets, most_octets, most_certificates, end_of, on_after, is_values, is_marked, frame_of, value_in, after_value, certificates_in, value_octets, certificates_octets, bundle_of}
-use Rattle.path.specs.declared.bundles.Framing.TheVariants.{Certificates}
-use Rattle.path.specs.declared.bundles.End.{End}
-use Rattle.path.specs.declared.bundles.End.TheVariants as end
 use Rattle.path.proofs.Framed.{Ends, ends, length-is, end_at, bundled}
 
 -- WHAT IS WRITTEN IS FRAMED
 
 -- a value that is written down ends where it ends
-value_ends : (v rest : List ℕ) → end_of (value_octets v ++ rest) ≡ end.At (2 + length v)
+value_ends : (v rest : List ℕ) → end_of (value_octets v ++ rest) ≡ Some (2 + length v)
 value_ends v rest =
     let n = length v in
     let e : n / 256 * 256 + n % 256 ≡ n = omega arith in
@@ -47,7 +45,7 @@ certificates_read (c ∷ cs) =
     (value_reads (suc (2 * length cs)) c.0 (value_octets c.1 ++ certificates_octets cs) ∙ value_reads (2 * length cs) c.1 (certificates_octets cs) ∙ certificates_read cs)
 
 -- The writing of 1 to 8 certificates, of at most 65,536 octets, is framed. That bound leaves each value fewer than 65,536 octets, so its length has 16 bits.
-pub framing_reads : (cs : List (List ℕ × List ℕ)) → 0 < length cs → length cs ≤ most_certificates → length (bundle_of cs) ≤ most_octets → frame_of (bundle_of cs) ≡ Certificates (length cs)
+pub framing_reads : (cs : List (List ℕ × List ℕ)) → 0 < length cs → length cs ≤ most_certificates → length (bundle_of cs) ≤ most_octets → frame_of (bundle_of cs) ≡ Ok (length cs)
 unfolding frame_of bundle_of is_marked
 framing_reads cs some few fits =
     let least : least_octets ≤ length (bundle_of cs) = omega arith in
@@ -117,9 +115,9 @@ first_value : (k : ℕ) (s : List ℕ) → Octets s → is_values (suc k) s ≡ 
 unfolding is_values
 first_value k s o h = go (end_of s) refl h
   where
-    go : (r : End) → end_of s ≡ r → on_after r (λ e. is_values k (drop e s)) ≡ true → Value k s
-    go end.Cut p q = let z : ◌≡◌ {A = ℕ} 0 1 = cc in absurd (omega arith)
-    go (end.At e) p q = value_written k s e o (ends s e p) q
+    go : (r : Option ℕ) → end_of s ≡ r → on_after r (λ e. is_values k (drop e s)) ≡ true → Value k s
+    go None p q = let z : ◌≡◌ {A = ℕ} 0 1 = cc in absurd (omega arith)
+    go (Some e) p q = value_written k s e o (ends s e p) q
 
 -- the octets s are the writing of n certificates
 record Certified (n : ℕ) (s : List ℕ) : Type 0 where
@@ -170,7 +168,7 @@ pub record Framed (b : List ℕ) (n : ℕ) : Type 0 where
   pub fits : length (bundle_of certificates) ≤ most_octets
 
 -- Octets that are accepted as framed are the writing of so many certificates.
-pub framing_exact : (b : List ℕ) (n : ℕ) → Octets b → frame_of b ≡ Certificates n → Framed b n
+pub framing_exact : (b : List ℕ) (n : ℕ) → Octets b → frame_of b ≡ Ok n → Framed b n
 unfolding bundle_of
 framing_exact b n o h =
     let f = bundled b n h in

@@ -4,7 +4,6 @@ use Prim.Native.Nat.{ℕ}
 use Rattle.number.proofs.laws.OneReply.{OneReply, one_reply}
 use Rattle.path.specs.Certificate as certificates
 use Rattle.path.specs.Paths as paths
-use Rattle.path.specs.declared.inherits.Inherited.{Inherited}
 use Rattle.path.proofs.bundles.length.Reads as length
 use Rattle.path.proofs.bundles.value_end.Reads as value_end
 use Rattle.path.proofs.bundles.frame.Reads as frame
@@ -14,6 +13,7 @@ use Rattle.path.proofs.paths.check.Reads as check
 use Rattle.path.proofs.replies.fault_in.Reads as fault_in
 use Rattle.path.proofs.replies.named.Reads as named
 use Rattle.path.proofs.walks.walk.Reads as walk
+use Rattle.path.specs.Inherit.{Inherited}
 
 -- bundles::length
 pub length_one_reply : OneReply length.Post (λ κs r s. r)

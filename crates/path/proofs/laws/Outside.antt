@@ -11,6 +11,7 @@ use native.Mathlib.Omega.{arith}
 use lib.ListN.{length, get_or, take, drop}
 use lib.Dec.{ltb, eqb}
 use borrow.Author.Tests.{ltb-true, ltb-false, eqb-true, eqb-false}
+use Rattle.std.specs.Prelude.{Ok, Err}
 use Rattle.number.specs.Tests.{pick}
 use Rattle.number.specs.Octets.{Octets}
 use Rattle.number.specs.Refusal.{number_of}
@@ -27,12 +28,10 @@ use Rattle.values.specs.Tables.{ip_rows, as_rows}
 use Rattle.values.specs.declared.readings.Refused.{Refused}
 use Rattle.path.specs.Walk.{Result, covered, missing, walk}
 use Rattle.path.specs.Inherit.{Spaces, all, lacks, lacking, resolved}
-use Rattle.path.specs.Replies.{fault_at, extension_of}
+use Rattle.path.specs.Replies.{fault_at, extension_of, Reply}
 use Rattle.path.specs.Certificate.{Above, anchor, Step, onward, carried, blamed, value_step, ip_step, as_step, lacked, presence_step, spaces_step, walk_step, hold_step, after_inheritance, after_presence, after_reading, certificate}
 use Rattle.path.specs.Paths.{Values, below, descent, path_of, Left, leaves, bare, check}
 use Rattle.path.specs.Demand.{Lent, Sized, Marked, Counted, Written, Unframed, Outside}
-use Rattle.path.specs.declared.bundles.Framing.TheVariants as framing
-use Rattle.path.specs.declared.replies.Reply.TheVariants as reply
 use Rattle.path.proofs.laws.Framing.{head_of_lem, marked, certificates_read, framing_finds, Framed, framing_exact}
 
 -- A TEST DECIDES A CONDITION
@@ -126,15 +125,15 @@ frame_as : (b : List ℕ) → frame_of b ≡
     pick (neither (ltb (length b) least_octets) (ltb most_octets (length b)))
     (pick (is_marked b)
     (pick (neither (eqb (get_or b 5 0) 0) (ltb most_certificates (get_or b 5 0)))
-    (pick (is_values (2 * get_or b 5 0) (drop 6 b)) (framing.Certificates (get_or b 5 0)) (framing.Refused refusal.Framing))
-    (framing.Refused refusal.CertificateCount))
-    (framing.Refused refusal.Mark))
-    (framing.Refused refusal.Framing)
+    (pick (is_values (2 * get_or b 5 0) (drop 6 b)) (Ok (get_or b 5 0)) (Err refusal.Framing))
+    (Err refusal.CertificateCount))
+    (Err refusal.Mark))
+    (Err refusal.Framing)
 unfolding frame_of
 frame_as b = rw (neither_picks, neither_picks)
 
 -- with all before it met, the last test decides whether certificates are written
-frames : (b : List ℕ) → Sized b → Marked b → Counted b → is_values (2 * get_or b 5 0) (drop 6 b) ≡ true → frame_of b ≡ framing.Certificates (get_or b 5 0)
+frames : (b : List ℕ) → Sized b → Marked b → Counted b → is_values (2 * get_or b 5 0) (drop 6 b) ≡ true → frame_of b ≡ Ok (get_or b 5 0)
 frames b s m c e = frame_as b ∙ rw (granted (is_sized_lem b) s, granted (is_marked_lem b s) m, granted (is_counted b) c, e)
 
 wrote : (b : List ℕ) → Written b → is_values (2 * get_or b 5 0) (drop 6 b) ≡ true
@@ -151,7 +150,7 @@ is_written b o s m c =
 -- WHERE THERE IS A REFUSAL
 
 -- the framing refuses as the document says
-unframed_refused : {b : List ℕ} {r : Refusal} → Octets b → Unframed b r → frame_of b ≡ framing.Refused r
+unframed_refused : {b : List ℕ} {r : Refusal} → Octets b → Unframed b r → frame_of b ≡ Err r
 unframed_refused {b} o (Unframed.size n) = frame_as b ∙ rw (denied (is_sized_lem b) n)
 unframed_refused {b} o (Unframed.mark s n) = frame_as b ∙ rw (granted (is_sized_lem b) s, denied (is_marked_lem b s) n)
 unframed_refused {b} o (Unframed.count s m n) = frame_as b ∙ rw (granted (is_sized_lem b) s, granted (is_marked_lem b s) m, denied (is_counted b) n)
@@ -164,11 +163,11 @@ unfolding check
 check_as b first second = neither_picks (ltb (length first) table_numbers) (ltb (length second) table_numbers) (bare refusal.TableShort, first, second) (leaves (path_of b) first second)
 
 -- and the path by its framing
-path_refused : (b : List ℕ) (r : Refusal) → frame_of b ≡ framing.Refused r → path_of b ≡ isnt (fault_at r 0 0 0 0)
+path_refused : (b : List ℕ) (r : Refusal) → frame_of b ≡ Err r → path_of b ≡ isnt (fault_at r 0 0 0 0)
 unfolding path_of
 path_refused b r e = rw e
 
-path_framed : (b : List ℕ) (n : ℕ) → frame_of b ≡ framing.Certificates n → (f : Framed b n) → path_of b ≡ descent anchor 0 f.certificates
+path_framed : (b : List ℕ) (n : ℕ) → frame_of b ≡ Ok n → (f : Framed b n) → path_of b ≡ descent anchor 0 f.certificates
 unfolding path_of
 path_framed b n e f = rw (e, f.written, f.count) (ap (λ (cs : List Values). descent anchor 0 cs) (framing_finds f.certificates))
 
@@ -200,7 +199,7 @@ pub record Inside (b first second : List ℕ) : Type 0 where
   pub path : path_of b ≡ descent anchor 0 certificates
   pub reply : check b first second ≡ leaves (descent anchor 0 certificates) first second
 
-inside : (b first second : List ℕ) → Lent first second → (n : ℕ) → frame_of b ≡ framing.Certificates n → Framed b n → Inside b first second
+inside : (b first second : List ℕ) → Lent first second → (n : ℕ) → frame_of b ≡ Ok n → Framed b n → Inside b first second
 inside b first second l n e f =
     let d : path_of b ≡ descent anchor 0 f.certificates = path_framed b n e f in
     record {
@@ -311,7 +310,7 @@ descent_goes a p [] = Goes.on
 descent_goes a p (c ∷ cs) = goes_on (certificate_goes a c.0 c.1) (λ h. descent_goes (below a c h.0) (p + h.1) cs)
 
 -- one reply has one refusal
-same_fault : {f g : Refused} → reply.Refused f ≡ reply.Refused g → f ≡ g
+same_fault : {f g : Refused} → ◌≡◌ {A = Reply} (Err f) (Err g) → f ≡ g
 same_fault {f} {g} e = cc
 
 -- the descent replies with none

@@ -11,6 +11,7 @@ use Prim.Native.Nat.{ℕ, suc, ◌≤◌}
 use native.Mathlib.Omega.{arith}
 use lib.ListN.{length}
 use borrow.Author.Tests.{le-ltb}
+use Rattle.std.specs.Prelude.{Ok, Err}
 use Rattle.number.specs.Halves.{whole}
 use Rattle.number.specs.Refusal.{number_of}
 use Rattle.number.specs.declared.refusal.Refusal.{Refusal}
@@ -25,11 +26,12 @@ use Rattle.values.specs.declared.readings.Refused.{Refused}
 use Rattle.path.specs.Certificate.{Step, anchor}
 use Rattle.path.specs.Paths.{descent, path_of, Left, tabled, leaves, check}
 use Rattle.path.specs.Demand.{Certificate, Held, Right, values_of, bundle, rows_at, Framed, Few, pairs_at, pairs_most, last, Missing, Fault, First}
-use Rattle.path.specs.declared.replies.Reply.TheVariants as reply
 use Rattle.path.proofs.laws.Walks.{AllListed}
 use Rattle.path.proofs.laws.Framing.{framing_reads, framing_finds}
 use Rattle.path.proofs.laws.Lines.{line_holds, holds_line, Passing, line_lists, line_tidy}
 use Rattle.path.proofs.laws.Descents.{Outcome, descends, passing_right, no_stop, stop_first, pairs_most_lem}
+use Rattle.path.specs.Replies.{Reply}
+use Rattle.path.specs.declared.replies.Accepted.{Accepted}
 
 -- THE CHECK IS THE DESCENT
 
@@ -55,7 +57,7 @@ unfolding check
 check_is b first second l m = rw (le-ltb (length first) table_numbers l, le-ltb (length second) table_numbers m)
 
 -- an acceptance is no refusal
-no_both : {n p : ℕ} {f : Refused} → reply.Accepted n p ≡ reply.Refused f → ⊥
+no_both : {n p : ℕ} {f : Refused} → ◌≡◌ {A = Reply} (Ok (record { rows = n; pairs = p })) (Err f) → ⊥
 no_both {n} {p} {f} e = let z : ◌≡◌ {A = ℕ} 0 1 = cc in omega arith
 
 -- EXACTLY THE RIGHT PATHS
@@ -64,7 +66,7 @@ no_both {n} {p} {f} e = let z : ◌≡◌ {A = ℕ} 0 1 = cc in omega arith
 pub record Accepts (l : Left) : Type 0 where
   pub rows : ℕ
   pub pairs : ℕ
-  pub is : l.0 ≡ reply.Accepted rows pairs
+  pub is : l.0 ≡ Ok (record { rows = rows; pairs = pairs })
 
 -- Over a well-framed bundle of 1 to 8 certificates, none with more than 512 rows after inheritance, the check accepts exactly if the path is right.
 pub path_exact : (path : List Certificate) (first second : List ℕ) → Framed path → Few path → table_numbers ≤ length first → table_numbers ≤ length second
@@ -122,25 +124,26 @@ record Left_as (path : List Certificate) (first second : List ℕ) (n p : ℕ) (
   two : cleared table_numbers second ≡ u
 
 accepted_as : (path : List Certificate) (first second : List ℕ) → Framed path → table_numbers ≤ length first → table_numbers ≤ length second
-    → (n p : ℕ) (t u : List ℕ) → check (bundle path) first second ≡ (reply.Accepted n p, t, u) → Left_as path first second n p t u
+    → (n p : ℕ) (t u : List ℕ) → check (bundle path) first second ≡ (Ok (record { rows = n; pairs = p }), t, u) → Left_as path first second n p t u
 accepted_as path first second f l m n p t u e = go (outcome path f) (sym (check_is (bundle path) first second l m) ∙ e)
   where
-    go : {o : Step (List Row × ℕ)} → Outcome [] path o → leaves o first second ≡ (reply.Accepted n p, t, u) → Left_as path first second n p t u
+    go : {o : Step (List Row × ℕ)} → Outcome [] path o → leaves o first second ≡ (Ok (record { rows = n; pairs = p }), t, u) → Left_as path first second n p t u
     go (Outcome.passes a) q =
-        let r : reply.Accepted (length (rows_at (last path))) (pairs_at (last path)) ≡ reply.Accepted n p = ap (λ (x : Left). x.0) q in
-        record { passing = a; rows = cc r; pairs = cc r; one = ap (λ (x : Left). x.1) q; two = ap (λ (x : Left). x.2) q }
+        let r : ◌≡◌ {A = Reply} (Ok (record { rows = length (rows_at (last path)); pairs = pairs_at (last path) })) (Ok (record { rows = n; pairs = p })) = ap (λ (x : Left). x.0) q in
+        let same : ◌≡◌ {A = Accepted} (record { rows = length (rows_at (last path)); pairs = pairs_at (last path) }) (record { rows = n; pairs = p }) = cc r in
+        record { passing = a; rows = ap (λ (x : Accepted). x.rows) same; pairs = ap (λ (x : Accepted). x.pairs) same; one = ap (λ (x : Left). x.1) q; two = ap (λ (x : Left). x.2) q }
     go (Outcome.stops s) q = absurd (no_both (sym (ap (λ (x : Left). x.0) q)))
 
 -- Where the check accepts, it leaves that table.
 pub path_table : (path : List Certificate) (first second : List ℕ) → Framed path → table_numbers ≤ length first → table_numbers ≤ length second
-    → (n p : ℕ) (t u : List ℕ) → check (bundle path) first second ≡ (reply.Accepted n p, t, u) → Table path first second n t u
+    → (n p : ℕ) (t u : List ℕ) → check (bundle path) first second ≡ (Ok (record { rows = n; pairs = p }), t, u) → Table path first second n t u
 path_table path first second f l m n p t u e =
     let h = accepted_as path first second f l m n p t u e in
     rows_table path first second n t u h.passing (sym h.one) (sym h.two) (sym h.rows)
 
 -- Its count of pairs is that of the definition, and at most the two row counts added, for each certificate below the anchor.
 pub path_pairs : (path : List Certificate) (first second : List ℕ) → Framed path → table_numbers ≤ length first → table_numbers ≤ length second
-    → (n p : ℕ) (t u : List ℕ) → check (bundle path) first second ≡ (reply.Accepted n p, t, u) → (p ≡ pairs_at (last path)) × (p ≤ pairs_most (last path))
+    → (n p : ℕ) (t u : List ℕ) → check (bundle path) first second ≡ (Ok (record { rows = n; pairs = p }), t, u) → (p ≡ pairs_at (last path)) × (p ≤ pairs_most (last path))
 path_pairs path first second f l m n p t u e =
     let h = accepted_as path first second f l m n p t u e in
     let q = pairs_most_lem (last path) in
@@ -151,10 +154,10 @@ path_pairs path first second f l m n p t u e =
 
 -- Where the check refuses a well-framed bundle, it names the fault of the first certificate that has one.
 pub first_at_fault : (path : List Certificate) (first second : List ℕ) → Framed path → table_numbers ≤ length first → table_numbers ≤ length second
-    → (f : Refused) → (check (bundle path) first second).0 ≡ reply.Refused f → First path f
+    → (f : Refused) → (check (bundle path) first second).0 ≡ Err f → First path f
 first_at_fault path first second w l m f e = go (outcome path w) (sym (ap (λ (x : Left). x.0) (check_is (bundle path) first second l m)) ∙ e)
   where
-    go : {o : Step (List Row × ℕ)} → Outcome [] path o → (leaves o first second).0 ≡ reply.Refused f → First path f
+    go : {o : Step (List Row × ℕ)} → Outcome [] path o → (leaves o first second).0 ≡ Err f → First path f
     go (Outcome.passes a) q = absurd (no_both q)
     go (Outcome.stops {f = g} s) q = let d : g ≡ f = cc in rw (← d) (stop_first path g s)
 
@@ -172,6 +175,6 @@ missing_was (Fault.not_held {s = s} {n = n} z p i l h) e = rw (whole_halves n) h
 
 -- Where that is refusal 15, space and value are those of the smallest number that the certificate holds and its issuer does not.
 pub smallest_missing : (path : List Certificate) (first second : List ℕ) → Framed path → table_numbers ≤ length first → table_numbers ≤ length second
-    → (f : Refused) → (check (bundle path) first second).0 ≡ reply.Refused f → f.refusal ≡ refusal.NotHeld
+    → (f : Refused) → (check (bundle path) first second).0 ≡ Err f → f.refusal ≡ refusal.NotHeld
     → (d : First path f) × Missing d.certificate (last d.above) f.space (whole f.value)
 smallest_missing path first second w l m f e n = let d = first_at_fault path first second w l m f e in (d, missing_was d.fault n)

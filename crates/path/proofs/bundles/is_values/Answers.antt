@@ -3,8 +3,8 @@ use borrow.Author.Rules.{rules}
 use Rattle.path.proofs.Framed.{end_inside, values_end, values_cut, values_turn}
 use Rattle.path.proofs.bundles.is_values.Goals as goal
 
-pub returns-in-Cut : goal.returns-in-Cut
-returns-in-Cut c = search (values_cut, rules)
+pub returns-in-None : goal.returns-in-None
+returns-in-None c = search (values_cut, rules)
 
 pub slice_bounds-rest-count : goal.slice_bounds-rest-count
 slice_bounds-rest-count c = search (end_inside, rules)

@@ -16,10 +16,10 @@ pub returns-then-total-gt-ROWS : goal.returns-then-total-gt-ROWS
 returns-then-total-gt-ROWS c = search (inherit_many, rules)
 
 pub put_all-requires-clause-filling : goal.put_all-requires-clause-filling
-put_all-requires-clause-filling c = inherit_fills _ _ _ _ _ c.count_all.ensures (count_there _ _ _ c.count-count.ensures) _ c.in-Rows.is c.if-total-gt-ROWS.false
+put_all-requires-clause-filling c = inherit_fills _ _ _ _ _ c.count_all.ensures (count_there _ _ _ c.count-count.ensures) _ c.in-Ok.is c.if-total-gt-ROWS.false
 
-pub returns-in-NoSpace : goal.returns-in-NoSpace
-returns-in-NoSpace c = search (inherit_lacks, rules)
+pub returns-in-Err : goal.returns-in-Err
+returns-in-Err c = search (inherit_lacks, rules)
 
 pub returns-else-total-gt-ROWS : goal.returns-else-total-gt-ROWS
 returns-else-total-gt-ROWS c = search (inherit_rows, rules)

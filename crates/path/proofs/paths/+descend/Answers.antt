@@ -21,19 +21,19 @@ after_value-requires t c = ids_there c.requires c.if-left-eq0.false c.after_valu
 
 pub overflow_add-pairs : goal.overflow_add-pairs
 overflow_add-pairs t c =
-    omega (arith, few_pairs c.requires c.if-left-eq0.false c.after_value-after.ensures c.value-ip.ensures c.value-ids.ensures c.certificate.ensures c.in-Accepted.is)
+    omega (arith, few_pairs c.requires c.if-left-eq0.false c.after_value-after.ensures c.value-ip.ensures c.value-ids.ensures c.certificate.ensures c.in-Ok.is)
 
 pub descend-requires : goal.descend-requires
 descend-requires t c = (
   omega arith,
-  descending c.requires c.if-left-eq0.false c.after_value-after.ensures c.value-ip.ensures c.value-ids.ensures c.certificate.ensures c.in-Accepted.is c.clear_rest.ensures c.below-next.ensures c.after_value.ensures
+  descending c.requires c.if-left-eq0.false c.after_value-after.ensures c.value-ip.ensures c.value-ids.ensures c.certificate.ensures c.in-Ok.is c.clear_rest.ensures c.below-next.ensures c.after_value.ensures
       (λ few. omega (arith, c.requires.counted)),
 )
 
-pub returns-in-Refused : goal.returns-in-Refused
-returns-in-Refused t c = descend_refused c.requires c.if-left-eq0.false c.after_value-after.ensures c.value-ip.ensures c.value-ids.ensures c.certificate.ensures c.in-Refused.is c.clear-in-Refused.ensures
+pub returns-in-Err : goal.returns-in-Err
+returns-in-Err t c = descend_refused c.requires c.if-left-eq0.false c.after_value-after.ensures c.value-ip.ensures c.value-ids.ensures c.certificate.ensures c.in-Err.is c.clear-in-Err.ensures
 
-pub returns-in-Accepted : goal.returns-in-Accepted
-returns-in-Accepted t c =
-    descend_on c.requires c.if-left-eq0.false c.after_value-after.ensures c.value-ip.ensures c.value-ids.ensures c.certificate.ensures c.in-Accepted.is c.clear_rest.ensures c.below-next.ensures c.after_value.ensures
+pub returns-in-Ok : goal.returns-in-Ok
+returns-in-Ok t c =
+    descend_on c.requires c.if-left-eq0.false c.after_value-after.ensures c.value-ip.ensures c.value-ids.ensures c.certificate.ensures c.in-Ok.is c.clear_rest.ensures c.below-next.ensures c.after_value.ensures
     c.descend.ensures
