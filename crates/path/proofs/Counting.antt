@@ -36,21 +36,24 @@ module _ {t : List ℕ} {m s k n : ℕ} (h : Counting t m s k n) where
   pub count_end : m ≤ k → n ≡ length (in_space s (rows_of m t))
   count_end p = let e : m ≡ k = omega arith in rw e h.count
 
-  module _ (p : k < m) (row : code.Row) (e : row ≡ in_halves (row_at t k)) where
+  module _ (p : k < m) (x : ℕ) (e : x ≡ (row_at t k).space) where
+    abbrev row : code.Row
+    row = in_halves (row_at t k)
+
     -- one more is of the space, or is not
-    pub count_yes : row.space ≡ s → Counting t m s (k + 1) (n + 1)
-    count_yes y =
+    pub count_yes : x ≡ s → {i : ℕ} → i ≡ n + 1 → Counting t m s (k + 1) i
+    count_yes y {i} q =
         record {
-          count = rw (space_yes k t row (omega arith) e s y, length-append) (omega (arith, h.count));
+          count = rw (space_yes k t row (omega arith) refl s (sym e ∙ y), length-append) (omega (arith, h.count, q));
           few = omega arith;
           upto = omega arith;
           there = h.there;
         }
 
-    pub count_no : (row.space ≡ s → ⊥) → Counting t m s (k + 1) n
-    count_no y =
+    pub count_no : (x ≡ s → ⊥) → {i : ℕ} → i ≡ n → Counting t m s (k + 1) i
+    count_no y {i} q =
         record {
-          count = rw (space_no k t row (omega arith) e s y) h.count;
+          count = rw (space_no k t row (omega arith) refl s (λ z. y (e ∙ z))) (q ∙ h.count);
           few = omega arith;
           upto = omega arith;
           there = h.there;

@@ -1,13 +1,15 @@
 -- The framing of a bundle as the code reads it: a value's end, the loop over the values, the values after the head, and what a bundle that is framed has. Assumes nothing.
-use mathlib.Core.Path.{◌≡◌, sym, ap, subst, ◌∙◌}
+use mathlib.Core.Path.{◌≡◌, refl, sym, ap, subst, ◌∙◌}
 use mathlib.Core.List.{List}
 use mathlib.Core.Bool.{Bool, true, false}
 use Prim.Native.Nat.{ℕ, suc, ◌+◌, ◌-◌, ◌*◌, ◌≤◌, ◌<◌}
 use native.Mathlib.Omega.{arith}
 use lib.ListN.{length, get_or, take, drop}
 use lib.Dec.{ltb, eqb}
-use borrow.Author.Tests.{ltb-false, eqb-false, le-ltb, lt-ltb}
-use Rattle.std.specs.Prelude.{Ok, Err, Result, Some, None, Option}
+use borrow.Author.Tests.{ltb-false, eqb-true, eqb-false, le-ltb, lt-ltb, eq-eqb, ne_eqb}
+use Rattle.std.specs.Prelude.{Ok, Err, Result, Some, None, Option, nat_eq, ◌&&◌, [], ◌∷◌}
+use Rattle.std.specs.List.{starts_with}
+use Rattle.number.specs.Tests.{pick}
 use Rattle.number.specs.declared.refusal.Refusal.{Refusal}
 use Rattle.number.specs.declared.refusal.Refusal.TheVariants as refusal
 use Rattle.number.proofs.Picks.{pick_not, pick_is, rest_of}
@@ -64,25 +66,60 @@ ends s e q =
 pub end_inside : (s : List ℕ) (r : Option ℕ) (e : ℕ) → r ≡ end_of s → r ≡ Some e → e ≤ length s
 end_inside s r e p q = (ends s e (sym p ∙ q)).inside
 
--- THE LOOP: so many values are left, and the answer for the rest is the answer for the whole
-module _ (o : Bool) (left : ℕ) (rest : List ℕ) (h : is_values left rest ≡ o) where
+-- THE LOOP: k of n values are read, and the answer for the rest is the answer for the whole
+module _ (o : Bool) (n k : ℕ) (rest : List ℕ) (h : is_values (n - k) rest ≡ o) where
   -- none is left
-  pub values_end : left ≤ 0 → eqb (length rest) 0 ≡ o
+  pub values_end : n ≤ k → (r : Bool) → r ≡ eqb (length rest) 0 → r ≡ o
   unfolding is_values
-  values_end l = let z : left ≡ 0 = omega arith in rw z at h
+  values_end l r e = let z : n - k ≡ 0 = omega arith in e ∙ rw z at h
 
   -- one is left at least: its end decides
-  opened : 0 < left → on_after (end_of rest) (λ e. is_values (left - 1) (drop e rest)) ≡ o
+  opened : k < n → on_after (end_of rest) (λ e. is_values (n - (k + 1)) (drop e rest)) ≡ o
   unfolding is_values
-  opened l = let z : left ≡ suc (left - 1) = omega arith in subst (λ (k : ℕ). is_values k rest ≡ o) z h
+  opened l = let z : n - k ≡ suc (n - (k + 1)) = omega arith in subst (λ (i : ℕ). is_values i rest ≡ o) z h
 
   -- the next one is cut short
-  pub values_cut : 0 < left → (r : Option ℕ) → r ≡ end_of rest → r ≡ None → false ≡ o
+  pub values_cut : k < n → (r : Option ℕ) → r ≡ end_of rest → r ≡ None → false ≡ o
   values_cut l r p q = let u : end_of rest ≡ None = sym p ∙ q in rw u at (opened l)
 
   -- the next one ends
-  pub values_turn : 0 < left → (r : Option ℕ) (e : ℕ) → r ≡ end_of rest → r ≡ Some e → is_values (left - 1) (take (length rest - e) (drop e rest)) ≡ o
+  pub values_turn : k < n → (r : Option ℕ) (e : ℕ) → r ≡ end_of rest → r ≡ Some e → is_values (n - (k + 1)) (take (length rest - e) (drop e rest)) ≡ o
   values_turn l r e p q = let u : end_of rest ≡ Some e = sym p ∙ q in rw rest_of (rw u at (opened l))
+
+-- THE MARK
+
+-- a test of an octet and then others
+one_test : (x k : ℕ) (t u : Bool) → t ≡ u → (nat_eq k x && t) ≡ pick (eqb x k) u false
+one_test x k t u e = go (eqb x k) refl
+  where
+    go : (b : Bool) → eqb x k ≡ b → (nat_eq k x && t) ≡ pick b u false
+    go true q = rw (eq-eqb k x (sym (eqb-true x k q))) e
+    go false q = rw (ne_eqb k x (λ y. eqb-false x k q (sym y)))
+
+-- the test of the last one
+last_test : (x k : ℕ) → (nat_eq k x && true) ≡ eqb x k
+last_test x k = one_test x k true true refl ∙ go (eqb x k)
+  where
+    go : (b : Bool) → pick b true false ≡ b
+    go true = refl
+    go false = refl
+
+-- a test before others that fail
+no_mark : (t u : Bool) → u ≡ false → (t && u) ≡ false
+no_mark true u e = e
+no_mark false u e = refl
+
+-- whether octets begin with the mark, which the definition tests octet by octet
+pub mark_tests : (b : List ℕ) → starts_with nat_eq b (0x52 ∷ 0x43 ∷ 0x48 ∷ 0 ∷ 1 ∷ []) ≡ is_marked b
+unfolding is_marked
+mark_tests [] = refl
+mark_tests (x ∷ []) = no_mark (eqb 0x52 x) false refl
+mark_tests (x ∷ y ∷ []) = no_mark (eqb 0x52 x) _ (no_mark (eqb 0x43 y) false refl)
+mark_tests (x ∷ y ∷ z ∷ []) = no_mark (eqb 0x52 x) _ (no_mark (eqb 0x43 y) _ (no_mark (eqb 0x48 z) false refl))
+mark_tests (x ∷ y ∷ z ∷ v ∷ []) = no_mark (eqb 0x52 x) _ (no_mark (eqb 0x43 y) _ (no_mark (eqb 0x48 z) _ (no_mark (eqb 0 v) false refl)))
+mark_tests (x ∷ y ∷ z ∷ v ∷ w ∷ s) =
+    rw (le-ltb (length (x ∷ y ∷ z ∷ v ∷ w ∷ s)) 5 (omega arith))
+    (one_test x 0x52 _ _ (one_test y 0x43 _ _ (one_test z 0x48 _ _ (one_test v 0 _ _ (last_test w 1)))))
 
 -- the values after the head: n octets of it, and of each certificate two
 pub values_after : (n : ℕ) (b : List ℕ) (x y : ℕ) (r v : Bool) → r ≡ is_values (2 * x) (take (length b - n) (drop n b)) → x ≡ y → r ≡ v → is_values (2 * y) (drop n b) ≡ v

@@ -12,6 +12,9 @@ pub const MOST_OCTETS: usize = 65536;
 
 pub const MOST_CERTIFICATES: usize = 8;
 
+// "`RCH` in ASCII, 16-bit version 0001"
+const MARK: [u8; 5] = [0x52, 0x43, 0x48, 0, 1];
+
 // The octets before the first certificate: mark, version and count.
 pub const HEAD: usize = 6;
 
@@ -50,65 +53,38 @@ fn is_values(s: &[u8], count: usize) -> bool
     ensures { result ≡ spec.is_values count s.now }
 {
     let mut rest = s;
-    let mut left = count;
-    while 0 < left {
-        match value_end(rest) {
-            None => {
-                return false;
-            }
-            Some(end) => {
-                rest = &rest[end..];
-            }
-        }
-        left = left - 1;
+    for _ in 0..count {
+        let Some(end) = value_end(rest) else {
+            return false;
+        };
+        rest = &rest[end..];
     }
-    rest.len() == 0
+    rest.is_empty()
 }
 
-// Whether the bundle begins with RCH and version 0001: one test of five octets.
+// Whether the bundle begins with RCH and version 0001.
 fn is_marked(bundle: &[u8]) -> bool
     ensures { result ≡ spec.is_marked bundle.now }
 {
-    if bundle.len() < 5 {
-        return false;
-    }
-    if bundle[0] != 0x52 {
-        return false;
-    }
-    if bundle[1] != 0x43 {
-        return false;
-    }
-    if bundle[2] != 0x48 {
-        return false;
-    }
-    if bundle[3] != 0 {
-        return false;
-    }
-    bundle[4] == 1
+    bundle.starts_with(&MARK)
 }
 
 // Returns how many certificates a bundle has, or the refusal: "length 18, 17, 12, framing 18", in this order.
 pub fn frame(bundle: &[u8]) -> Result<usize, Refusal>
     ensures { result ≡ spec.frame_of bundle.now }
 {
-    if bundle.len() < LEAST_OCTETS {
-        return Err(Refusal::Framing);
-    }
-    if MOST_OCTETS < bundle.len() {
+    if bundle.len() < LEAST_OCTETS || MOST_OCTETS < bundle.len() {
         return Err(Refusal::Framing);
     }
     if !is_marked(bundle) {
         return Err(Refusal::Mark);
     }
     let count = wide(bundle[5]);
-    if count == 0 {
+    if count == 0 || MOST_CERTIFICATES < count {
         return Err(Refusal::CertificateCount);
     }
-    if MOST_CERTIFICATES < count {
-        return Err(Refusal::CertificateCount);
+    if !is_values(&bundle[HEAD..], 2 * count) {
+        return Err(Refusal::Framing);
     }
-    if is_values(&bundle[HEAD..], 2 * count) {
-        return Ok(count);
-    }
-    Err(Refusal::Framing)
+    Ok(count)
 }

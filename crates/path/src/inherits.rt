@@ -19,13 +19,10 @@ fn count_in(issuer: &[u64], m: usize, space: u64) -> usize
     requires { m ≤ room issuer.now }
     ensures { result ≡ length (spec.in_space space (rows_of m issuer.now)) }
 {
-    let mut k: usize = 0;
     let mut n: usize = 0;
-    while k < m {
-        let row = rows::get(issuer, k);
-        k = k + 1;
-        if row.space == space {
-            n = n + 1;
+    for k in 0..m {
+        if rows::space(issuer, k) == space {
+            n += 1;
         }
     }
     n
@@ -47,16 +44,14 @@ fn count_all(own: &[u64], n: usize, issuer: &[u64], m: usize) -> Result<usize, U
     requires { (n ≤ room own.now) × (m ≤ room issuer.now) }
     ensures { result ≡ spec.count_of (rows_of m issuer.now) (rows_of n own.now) }
 {
-    let mut k: usize = 0;
     let mut total: usize = 0;
-    while k < n {
+    for k in 0..n {
         let row = rows::get(own, k);
         let more = count_row(row, issuer, m);
         if more == 0 {
             return Err(Uninherited::NoSpace(row.space));
         }
         total = rows::fewer(total + more, rows::ROWS + 1);
-        k = k + 1;
     }
     Ok(total)
 }
@@ -66,13 +61,11 @@ fn put_space(own: &mut [u64], end: usize, issuer: &[u64], m: usize, space: u64) 
     requires { (m ≤ room issuer.now) × (length (spec.in_space space (rows_of m issuer.now)) ≤ end) }
     ensures { (result, own.new) ≡ spec.up_to own.old end (spec.in_space space (rows_of m issuer.now)) }
 {
-    let mut k = m;
     let mut w = end;
-    while 0 < k {
-        k = k - 1;
+    for k in (0..m).rev() {
         let row = rows::get(issuer, k);
         if row.space == space {
-            w = w - 1;
+            w -= 1;
             rows::put(own, w, row);
         }
     }
@@ -97,10 +90,8 @@ fn put_all(own: &mut [u64], n: usize, issuer: &[u64], m: usize, total: usize)
     requires there { m ≤ room issuer.now }
     ensures { own.new ≡ with_rows own.old 0 (spec.resolved (rows_of m issuer.now) (rows_of n own.old)) }
 {
-    let mut k = n;
     let mut w = total;
-    while 0 < k {
-        k = k - 1;
+    for k in (0..n).rev() {
         let row = rows::get(own, k);
         w = put_row(own, w, issuer, m, row);
     }
@@ -137,14 +128,10 @@ pub fn inherit(own: &mut [u64], n: usize, issuer: &[u64], m: usize) -> Result<us
         return Ok(count);
     }
     let over = rows::count(issuer, m);
-    match count_all(own, count, issuer, over) {
-        Err(refused) => Err(refused),
-        Ok(total) => {
-            if rows::ROWS < total {
-                return Err(Uninherited::TooMany);
-            }
-            put_all(own, count, issuer, over, total);
-            Ok(total)
-        }
+    let total = count_all(own, count, issuer, over)?;
+    if rows::ROWS < total {
+        return Err(Uninherited::TooMany);
     }
+    put_all(own, count, issuer, over, total);
+    Ok(total)
 }

@@ -1,10 +1,6 @@
-use Prim.Native.Nat.{◌-◌}
 use Rattle.table.specs.Rows.{rows_of}
 use Rattle.path.proofs.Counting.{Tallying}
 use Rattle.path.proofs.inherits.count_all.Given as goal
 
 abbrev pub invariant-loop-k : goal.invariant-loop-k
 invariant-loop-k l = Tallying (rows_of l.m l.issuer) l.own l.n l.k l.total
-
-abbrev pub decreases-loop-k : goal.decreases-loop-k
-decreases-loop-k l = l.n - l.k

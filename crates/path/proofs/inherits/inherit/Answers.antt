@@ -13,13 +13,13 @@ pub returns-then-not-any_inherits : goal.returns-then-not-any_inherits
 returns-then-not-any_inherits c = search (none_rows, rules)
 
 pub returns-then-total-gt-ROWS : goal.returns-then-total-gt-ROWS
-returns-then-total-gt-ROWS c = search (inherit_many, rules)
+returns-then-total-gt-ROWS c = search (c.in_ok-total.was, inherit_many, rules)
 
 pub put_all-requires-clause-filling : goal.put_all-requires-clause-filling
-put_all-requires-clause-filling c = inherit_fills _ _ _ _ _ c.count_all.ensures (count_there _ _ _ c.count-count.ensures) _ c.in-Ok.is c.if-total-gt-ROWS.false
+put_all-requires-clause-filling c = inherit_fills _ _ _ _ _ c.count_all.ensures (count_there _ _ _ c.count-count.ensures) _ c.in_ok-total.was c.if-total-gt-ROWS.false
 
-pub returns-in-Err : goal.returns-in-Err
-returns-in-Err c = search (inherit_lacks, rules)
+pub returns-in_err-total : goal.returns-in_err-total
+returns-in_err-total c = search (inherit_lacks, rules)
 
-pub returns-else-total-gt-ROWS : goal.returns-else-total-gt-ROWS
-returns-else-total-gt-ROWS c = search (inherit_rows, rules)
+pub returns : goal.returns
+returns c = search (c.in_ok-total.was, inherit_rows, rules)

@@ -6,6 +6,3 @@ use Rattle.path.proofs.inherits.put_all.Given as goal
 
 abbrev pub invariant-loop-k : goal.invariant-loop-k
 invariant-loop-k l = Resolving (with_rows l.initial.own 0 (resolved (rows_of l.m l.issuer) (rows_of l.n l.initial.own))) (length l.initial.own) (rows_of l.m l.issuer) l.own l.k l.w
-
-abbrev pub decreases-loop-k : goal.decreases-loop-k
-decreases-loop-k l = l.k

@@ -6,6 +6,3 @@ use Rattle.path.proofs.inherits.put_space.Given as goal
 
 abbrev pub invariant-loop-k : goal.invariant-loop-k
 invariant-loop-k l = Placing (up_to l.initial.own l.end (in_space l.space (rows_of l.m l.issuer))) (length l.initial.own) l.issuer l.space l.own l.k l.w
-
-abbrev pub decreases-loop-k : goal.decreases-loop-k
-decreases-loop-k l = l.k
