@@ -3,7 +3,7 @@
 --     certificate_..      the exits of `certificate`
 use mathlib.Core.Path.{◌≡◌, refl, sym, ap, ap₂, ◌∙◌}
 use mathlib.Core.List.{List, [], ◌++◌}
-use mathlib.Core.Bool.{Bool, true, false}
+use mathlib.Core.Bool.{Bool, true, false, true≢false, false≢true}
 use mathlib.Core.Logic.{◌⊎◌, inl, inr}
 use Prim.Native.Nat.{ℕ, ◌+◌, ◌≤◌, ◌<◌}
 use native.Mathlib.Nat.{add-zero, zero-add}
@@ -11,7 +11,7 @@ use native.Mathlib.Omega.{arith}
 use lib.ListN.{length, length-append}
 use lib.Dec.{ltb, eqb}
 use borrow.Author.Tests.{lt-ltb, le-ltb, eq-eqb, ne_eqb}
-use Rattle.std.specs.Prelude.{Err}
+use Rattle.std.specs.Prelude.{Ok, Err, Option, Some, None, is_err}
 use Rattle.number.specs.Tests.{pick}
 use Rattle.number.specs.Octets.{Octets}
 use Rattle.number.specs.declared.refusal.Refusal.TheVariants as refusal
@@ -28,7 +28,7 @@ use Rattle.values.specs.declared.readings.Reading.TheVariants as reading
 use Rattle.values.specs.declared.readings.Refused.{Refused}
 use Rattle.values.proofs.laws.Exact.{ip_exact, as_exact_after}
 use Rattle.path.specs.Replies.{fault_at, named, Reply}
-use Rattle.path.specs.Certificate.{Step, onward, blamed, value_step, ip_step, as_step, read_step, lacked, after_presence, after_reading, certificate, Left, seen_above, refused, left, checked}
+use Rattle.path.specs.Certificate.{Step, onward, blamed, value_step, ip_step, as_step, read_step, lacked, after_presence, after_reading, certificate, Left, seen_above, refused, left, checked, zeroed}
 use Rattle.path.specs.declared.certificates.Above as code
 use Rattle.path.proofs.Checking.{read_again}
 
@@ -124,59 +124,73 @@ module _ (k : ℕ) (ip ids t : List ℕ) (long : table_numbers ≤ length t) (oi
 module _ (a : code.Above) (issuer ip ids own : List ℕ) where
   -- what is to be answered
   abbrev answer : Left
-  answer = checked (seen_above a issuer) ip ids own
+  answer = left (certificate (seen_above a issuer) ip ids) own
 
   -- a table too short
-  pub certificate_short : (f : Refused) → length own < table_numbers → f ≡ fault_at refusal.TableShort 0 0 0 0 → ◌≡◌ {A = Left} (Err f, own) answer
+  pub certificate_short : (f : Refused) → length own < table_numbers → f ≡ fault_at refusal.TableShort 0 0 0 0 → ◌≡◌ {A = Left} (Err f, own) (checked (seen_above a issuer) ip ids own)
   unfolding checked
   certificate_short f h e = rw (lt-ltb (length own) table_numbers h, e)
 
-  module _ (oip : Octets ip) (oids : Octets ids) (long : table_numbers ≤ length own) (x : Reading) (t : List ℕ) (e : ◌≡◌ {A = Read} (x, t) (step_both ip ids own)) where
-    -- what the code's answer says of the reading
-    told : Bridged a.certificates own (read_step a.certificates ip ids) (x, t)
-    told = rw (← e) at (bridge a.certificates ip ids own long oip oids)
+  module _ (long : table_numbers ≤ length own) where
+    -- the steps' reply, and their table where a refusal is followed by zeros
+    pub certificate_zeroed : (r : Reply) (t : List ℕ) → zeroed r t ≡ answer → zeroed r t ≡ checked (seen_above a issuer) ip ids own
+    unfolding checked
+    certificate_zeroed r t q = rw (le-ltb (length own) table_numbers long) q
 
-    module _ (r : Reply) (u : List ℕ) where
+    module _ (oip : Octets ip) (oids : Octets ids) (x : Reading) (t : List ℕ) (e : ◌≡◌ {A = Read} (x, t) (step_both ip ids own)) where
+      -- what the code's answer says of the reading
+      told : Bridged a.certificates own (read_step a.certificates ip ids) (x, t)
+      told = rw (← e) at (bridge a.certificates ip ids own long oip oids)
+
       -- a value is refused
-      pub certificate_refused : (g : Refused) → x ≡ reading.Refused g → (f : Refused) → f ≡ named a.certificates g → ◌≡◌ {A = Left} (r, u) (refused f t) → ◌≡◌ {A = Left} (r, u) answer
-      unfolding checked certificate
-      certificate_refused g h f p q = rw (le-ltb (length own) table_numbers long) (go (read_step a.certificates ip ids) told)
+      pub certificate_refused : (g : Refused) → x ≡ reading.Refused g → (f : Refused) → f ≡ named a.certificates g → refused f t ≡ answer
+      unfolding certificate
+      certificate_refused g h f p = go (read_step a.certificates ip ids) told
         where
-          go : (s : Step (List Row)) → Bridged a.certificates own s (x, t) → ◌≡◌ {A = Left} (r, u) (left (onward s (λ rows. after_reading (seen_above a issuer) ip ids rows)) own)
+          go : (s : Step (List Row)) → Bridged a.certificates own s (x, t) → refused f t ≡ left (onward s (λ rows. after_reading (seen_above a issuer) ip ids rows)) own
           go (is rows) (i, j, m) = let z : ◌≡◌ {A = ℕ} 0 1 = cc in absurd (omega arith)
           go (isnt o) (i, j, m, c) =
               let y : f ≡ o = cc in
-              q ∙ ap₂ (λ (w : Refused) (l : List ℕ). (Err w, l)) y c
+              ap₂ (λ (w : Refused) (l : List ℕ). (Err w, l)) y c
 
       -- both are read: so many rows, and they are in the table
       module _ (n : ℕ) (h : x ≡ reading.Rows n) where
         -- then the steps after the reading decide
-        both_read : ((rows : List Row) → n ≡ length rows → t ≡ with_rows own 0 rows → length rows ≤ max_rows → ◌≡◌ {A = Left} (r, u) (left (after_reading (seen_above a issuer) ip ids rows) own)) → ◌≡◌ {A = Left} (r, u) answer
-        unfolding checked certificate
-        both_read next = rw (le-ltb (length own) table_numbers long) (go (read_step a.certificates ip ids) told)
+        both_read : (l : Left) → ((rows : List Row) → n ≡ length rows → t ≡ with_rows own 0 rows → length rows ≤ max_rows → l ≡ left (after_reading (seen_above a issuer) ip ids rows) own) → l ≡ answer
+        unfolding certificate
+        both_read l next = go (read_step a.certificates ip ids) told
           where
-            go : (s : Step (List Row)) → Bridged a.certificates own s (x, t) → ◌≡◌ {A = Left} (r, u) (left (onward s (λ rows. after_reading (seen_above a issuer) ip ids rows)) own)
+            go : (s : Step (List Row)) → Bridged a.certificates own s (x, t) → l ≡ left (onward s (λ rows. after_reading (seen_above a issuer) ip ids rows)) own
             go (is rows) (i, j, m) = next rows (cc) j m
             go (isnt o) (i, j, m, c) = let z : ◌≡◌ {A = ℕ} 0 1 = cc in absurd (omega arith)
 
-        module _ (l : ℕ) (d : l ≡ lacked ip ids a.ip a.ids) where
+        module _ (l : Option ℕ) (d : l ≡ lacked ip ids a.ip a.ids) where
           -- the issuer lacks an extension
-          pub certificate_lacks : (l ≡ 0 → ⊥) → (f : Refused) → f ≡ fault_at refusal.IssuerLacks a.certificates l 0 0 → ◌≡◌ {A = Left} (r, u) (refused f t) → ◌≡◌ {A = Left} (r, u) answer
+          pub certificate_lacks : (k : ℕ) → l ≡ Some k → (f : Refused) → f ≡ fault_at refusal.IssuerLacks a.certificates k 0 0 → refused f t ≡ answer
           unfolding after_reading
-          certificate_lacks z f p q = both_read (λ rows i j m.
-              rw (← d, ne_eqb l 0 z) (q ∙ rw (p, j) (ap (λ (w : List ℕ). (Err (fault_at refusal.IssuerLacks a.certificates l 0 0), w)) (cleared_rows own 0 rows (omega arith)))))
+          certificate_lacks k z f p = both_read (refused f t) (λ rows i j m.
+              rw (← d, z, p, j) (ap (λ (w : List ℕ). (Err (fault_at refusal.IssuerLacks a.certificates k 0 0), w)) (cleared_rows own 0 rows (omega arith))))
 
           -- it does not: inheritance is next
-          pub certificate_inherits : l ≡ 0 → ◌≡◌ {A = Left} (r, u) (left (after_presence (seen_above a issuer) (rows_of n t)) t) → ◌≡◌ {A = Left} (r, u) answer
+          pub certificate_inherits : l ≡ None → (r : Reply) (u : List ℕ) → zeroed r u ≡ left (after_presence (seen_above a issuer) (rows_of n t)) t → zeroed r u ≡ answer
           unfolding after_reading
-          certificate_inherits z q = both_read (λ rows i j m.
+          certificate_inherits z r u q = both_read (zeroed r u) (λ rows i j m.
               let b : length rows ≤ room own = omega arith in
-              rw (← d, eq-eqb l 0 z) (q ∙ rw (i, j, rows_written own rows b) (read_again (seen_above a issuer) rows own m)))
+              rw (← d, z) (q ∙ rw (i, j, rows_written own rows b) (read_again (seen_above a issuer) rows own m)))
 
-    -- the rows that were read are not too many
-    pub read_few : (n : ℕ) → x ≡ reading.Rows n → n ≤ max_rows
-    read_few n h = go (read_step a.certificates ip ids) told
-      where
-        go : (s : Step (List Row)) → Bridged a.certificates own s (x, t) → n ≤ max_rows
-        go (is rows) (i, j, m) = let y : n ≡ length rows = cc in omega arith
-        go (isnt o) (i, j, m, c) = let z : ◌≡◌ {A = ℕ} 0 1 = cc in absurd (omega arith)
+      -- the rows that were read are not too many
+      pub read_few : (n : ℕ) → x ≡ reading.Rows n → n ≤ max_rows
+      read_few n h = go (read_step a.certificates ip ids) told
+        where
+          go : (s : Step (List Row)) → Bridged a.certificates own s (x, t) → n ≤ max_rows
+          go (is rows) (i, j, m) = let y : n ≡ length rows = cc in omega arith
+          go (isnt o) (i, j, m, c) = let z : ◌≡◌ {A = ℕ} 0 1 = cc in absurd (omega arith)
+
+-- by whether the steps refused: their table is cleared, or left
+pub reply_zeroed : (r : Reply) (t t' : List ℕ) (l : Left) → zeroed r t ≡ l → is_err r ≡ true → t' ≡ cleared table_numbers t → ◌≡◌ {A = Left} (r, t') l
+reply_zeroed (Ok x) t t' l e h p = absurd (false≢true h)
+reply_zeroed (Err f) t t' l e h p = rw p e
+
+pub reply_stays : (r : Reply) (t : List ℕ) (l : Left) → zeroed r t ≡ l → is_err r ≡ false → ◌≡◌ {A = Left} (r, t) l
+reply_stays (Ok x) t l e h = e
+reply_stays (Err f) t l e h = absurd (true≢false h)

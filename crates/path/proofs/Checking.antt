@@ -1,5 +1,4 @@
 -- What the steps of one certificate answer and leave, by what was found. Assumes nothing.
---     refused_leaves          a refusal leaves zeros
 --     ip_fault, as_fault      the extension follows from the space
 --     lacked_..               the exits of `lacked`
 --     hold_..                 the exits of `hold`;   inherits_..   of `inherit`
@@ -27,17 +26,13 @@ use Rattle.values.specs.declared.readings.Refused.{Refused}
 use Rattle.path.specs.Walk.{Result, covered, missing, walk, replied, walked_of}
 use Rattle.path.specs.Inherit.{resolved, Spaces, all, lacks, lacking, filled_in, inherit, Inherited}
 use Rattle.path.specs.Replies.{fault_at, extension_of, Reply}
-use Rattle.path.specs.Certificate.{Above, Step, onward, carried, lacked, spaces_step, walk_step, hold_step, after_inheritance, after_presence, Left, seen_above, refused, left, uninherited, held_by}
+use Rattle.path.specs.Certificate.{Above, Step, onward, carried, lacked, spaces_step, walk_step, hold_step, after_inheritance, after_presence, Left, seen_above, refused, left, zeroed, uninherited, held_by}
 use Rattle.path.specs.declared.walks.Walked as walked
 use Rattle.path.specs.declared.certificates.Above as code
 use Rattle.path.proofs.Parts.{no_fewer}
 use Rattle.path.specs.declared.inherits.Uninherited.{Uninherited}
 use Rattle.path.specs.declared.inherits.Uninherited.TheVariants as why
 use Rattle.path.specs.declared.walks.Missing.{Missing}
-
--- a refusal leaves zeros
-pub refused_leaves : (f : Refused) (t t' : List ℕ) → t' ≡ cleared table_numbers t → ◌≡◌ {A = Left} (Err f, t') (refused f t)
-refused_leaves f t t' e = rw e
 
 -- a refusal in a space
 abbrev pub fault_in : Refusal → ℕ → ℕ → ℕ → Halves → Refused
@@ -76,15 +71,15 @@ is_absent v has h = let z : length v ≡ 0 = omega arith in rw (eq-eqb (length v
 
 -- so the answers
 module _ (ip ids : List ℕ) (has_ip has_ids : Bool) where
-  pub lacked_ip : unmet ip has_ip ≡ true → ip_extension ≡ lacked ip ids has_ip has_ids
+  pub lacked_ip : unmet ip has_ip ≡ true → Some ip_extension ≡ lacked ip ids has_ip has_ids
   unfolding lacked
   lacked_ip e = rw e
 
-  pub lacked_ids : unmet ip has_ip ≡ false → unmet ids has_ids ≡ true → as_extension ≡ lacked ip ids has_ip has_ids
+  pub lacked_ids : unmet ip has_ip ≡ false → unmet ids has_ids ≡ true → Some as_extension ≡ lacked ip ids has_ip has_ids
   unfolding lacked
   lacked_ids e f = rw (e, f)
 
-  pub lacked_none : unmet ip has_ip ≡ false → unmet ids has_ids ≡ false → 0 ≡ lacked ip ids has_ip has_ids
+  pub lacked_none : unmet ip has_ip ≡ false → unmet ids has_ids ≡ false → None ≡ lacked ip ids has_ip has_ids
   unfolding lacked
   lacked_none e f = rw (e, f)
 
@@ -122,13 +117,12 @@ module _ (a : code.Above) (issuer own : List ℕ) (n : ℕ) where
         rw (ne_eqb a.certificates 0 some, r, p)
 
     -- a number is missing
-    pub hold_missing : (m : Missing) → w.missing ≡ Some m → (f : Refused) → f ≡ fault_in refusal.NotHeld a.certificates (extension_of m.space) m.space m.value
-        → (r : Reply) (t : List ℕ) → ◌≡◌ {A = Left} (r, t) (refused f own) → ◌≡◌ {A = Left} (r, t) held
+    pub hold_missing : (m : Missing) → w.missing ≡ Some m → (f : Refused) → f ≡ fault_in refusal.NotHeld a.certificates (extension_of m.space) m.space m.value → refused f own ≡ held
     unfolding hold_step
-    hold_missing m h f g r t q = let (x, y, u) = was_missing (walk (rows_in n own) (rows_in a.rows issuer)).result (walk (rows_in n own) (rows_in a.rows issuer)).pairs w m e h in from x y u
+    hold_missing m h f g = let (x, y, u) = was_missing (walk (rows_in n own) (rows_in a.rows issuer)).result (walk (rows_in n own) (rows_in a.rows issuer)).pairs w m e h in from x y u
       where
-        from : (x : ℕ) → (walk (rows_in n own) (rows_in a.rows issuer)).result ≡ missing m.space x → m.value ≡ halves x → ◌≡◌ {A = Left} (r, t) held
-        from x y u = rw (ne_eqb a.certificates 0 some, y) (q ∙ rw (g, u))
+        from : (x : ℕ) → (walk (rows_in n own) (rows_in a.rows issuer)).result ≡ missing m.space x → m.value ≡ halves x → refused f own ≡ held
+        from x y u = rw (ne_eqb a.certificates 0 some, y, g, u)
 
 -- INHERITANCE
 
@@ -191,17 +185,16 @@ module _ (a : code.Above) (issuer own : List ℕ) (n : ℕ) (few : n ≤ max_row
   told = rw (← opened) at (filled (lacking above.rows rows) whole own)
 
   -- there are no rows
-  pub inherits_not : (y : Uninherited) → x ≡ Err y → (f : Refused) → f ≡ uninherited a.certificates y
-      → (r : Reply) (u : List ℕ) → ◌≡◌ {A = Left} (r, u) (refused f t) → ◌≡◌ {A = Left} (r, u) answer
+  pub inherits_not : (y : Uninherited) → x ≡ Err y → (f : Refused) → f ≡ uninherited a.certificates y → refused f t ≡ answer
   unfolding after_presence after_inheritance
-  inherits_not (why.NoSpace s) h f g r u q = let (l, o) = rw h at told in rw l (q ∙ rw (g, o))
-  inherits_not why.TooMany h f g r u q = let (l, m, o) = rw h at told in rw (l, lt-ltb max_rows (length whole) m) (q ∙ rw (g, o))
-  inherits_not why.Short h f g r u q = absurd (rw h at told)
+  inherits_not (why.NoSpace s) h f g = let (l, o) = rw h at told in rw (l, g, o)
+  inherits_not why.TooMany h f g = let (l, m, o) = rw h at told in rw (l, lt-ltb max_rows (length whole) m, g, o)
+  inherits_not why.Short h f g = absurd (rw h at told)
 
   -- the rows after inheritance, and what the walk says of them
-  pub inherits_holds : (k : ℕ) → x ≡ Ok k → (r : Reply) (u : List ℕ) → ◌≡◌ {A = Left} (r, u) (held_by k t (hold_step above (rows_in k t))) → ◌≡◌ {A = Left} (r, u) answer
+  pub inherits_holds : (k : ℕ) → x ≡ Ok k → (r : Reply) → zeroed r t ≡ held_by k t (hold_step above (rows_in k t)) → zeroed r t ≡ answer
   unfolding after_presence after_inheritance
-  inherits_holds k h r u q =
+  inherits_holds k h r q =
       let (l, m, c, o) = rw h at told in
       let i : length whole ≤ room own = omega arith in
       let b : table_numbers ≤ length (with_rows own 0 whole) = rw length-with_rows long in

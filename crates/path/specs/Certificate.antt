@@ -1,5 +1,5 @@
 -- One certificate's check as document 01 orders its steps: "IP value, AS value, 13 for IP, 13 for AS, 14 by space, 11, 15". A definition that runs.
-use Rattle.std.specs.Prelude.{ℕ, List, [], ◌++◌, Bool, true, false, length, ltb, eqb, Ok, Err}
+use Rattle.std.specs.Prelude.{ℕ, List, [], ◌++◌, Bool, true, false, length, ltb, eqb, Ok, Err, Option, Some, None}
 use Rattle.number.specs.Tests.{pick}
 use Rattle.number.specs.declared.refusal.Refusal.TheVariants as refusal
 use Rattle.table.specs.Sizes.{max_rows, table_numbers}
@@ -62,16 +62,18 @@ as_step k n v = value_step k as_extension v (as_rows n v)
 abbrev pub read_step : ℕ → List ℕ → List ℕ → Step (List Row)
 read_step k ip ids = onward (ip_step k ip) (λ rows. onward (as_step k (length rows) ids) (λ more. is (rows ++ more)))
 
--- 13: "extension carried, issuer has none"; the extension, IP first, or 0 if there is none such
-unfoldable pub lacked : List ℕ → List ℕ → Bool → Bool → ℕ
+-- 13: "extension carried, issuer has none"; the extension, IP first
+unfoldable pub lacked : List ℕ → List ℕ → Bool → Bool → Option ℕ
 lacked ip ids has_ip has_ids =
-    pick (pick (carried ip) (pick has_ip false true) false) ip_extension
-    (pick (pick (carried ids) (pick has_ids false true) false) as_extension 0)
+    pick (pick (carried ip) (pick has_ip false true) false) (Some ip_extension)
+    (pick (pick (carried ids) (pick has_ids false true) false) (Some as_extension) None)
+
+abbrev pub extensions_step : ℕ → Option ℕ → List Row → Step (List Row)
+extensions_step k None rows = is rows
+extensions_step k (Some extension) rows = isnt (fault_at refusal.IssuerLacks k extension 0 0)
 
 abbrev pub presence_step : Above → List ℕ → List ℕ → List Row → Step (List Row)
-presence_step a ip ids rows =
-    pick (eqb (lacked ip ids a.ip a.ids) 0) (is rows)
-    (isnt (fault_at refusal.IssuerLacks a.certificates (lacked ip ids a.ip a.ids) 0 0))
+presence_step a ip ids rows = extensions_step a.certificates (lacked ip ids a.ip a.ids) rows
 
 -- 14: "inherit, and the issuer has no such space, or anchor"
 abbrev pub spaces_step : ℕ → Spaces → List Row → Step (List Row)
@@ -124,6 +126,11 @@ refused f t = (Err f, cleared table_numbers t)
 abbrev pub left : Step (List Row × ℕ) → List ℕ → Left
 left (is h) t = (Ok (record { rows = length h.0; pairs = h.1 }), with_rows t 0 h.0)
 left (isnt f) t = refused f t
+
+-- a reply, and the table where a refusal is followed by zeros
+abbrev pub zeroed : Reply → List ℕ → Left
+zeroed (Ok x) t = (Ok x, t)
+zeroed (Err f) t = refused f t
 
 -- why a certificate has no rows after inheritance, as its refusal
 abbrev pub uninherited : ℕ → Uninherited → Refused

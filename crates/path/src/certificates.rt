@@ -23,37 +23,26 @@ pub struct Above {
     pub ids: bool,
 }
 
-// A refusal leaves zeros in the certificate's table.
-fn refuse(own: &mut [u64], fault: Refused) -> Reply
-    ensures { (result, own.new) ≡ spec.refused fault own.old }
-{
-    rows::clear(own, rows::NUMBERS);
-    Err(fault)
-}
-
 // "15: a held number is not held by the issuer." The anchor has no issuer.
-fn hold(own: &mut [u64], n: usize, issuer: &[u64], above: Above) -> Reply
-    ensures { (result, own.new) ≡ spec.held_by n own.old (spec.hold_step (spec.seen_above above issuer.now) (rows_in n own.old)) }
+fn hold(own: &[u64], n: usize, issuer: &[u64], above: Above) -> Reply
+    ensures { spec.zeroed result own.now ≡ spec.held_by n own.now (spec.hold_step (spec.seen_above above issuer.now) (rows_in n own.now)) }
 {
     if above.certificates == 0 {
         return Ok(Accepted { rows: n, pairs: 0 });
     }
     let walked = walks::walk(own, n, issuer, above.rows);
-    match walked.missing {
-        None => {
-            let pairs = walked.pairs;
-            Ok(Accepted { rows: n, pairs })
-        }
-        Some(missing) => {
-            let fault = replies::fault_in(
-                Refusal::NotHeld,
-                above.certificates,
-                missing.space,
-                missing.value,
-            );
-            refuse(own, fault)
-        }
+    if let Some(number) = walked.missing {
+        return Err(replies::fault_in(
+            Refusal::NotHeld,
+            above.certificates,
+            number.space,
+            number.value,
+        ));
     }
+    Ok(Accepted {
+        rows: n,
+        pairs: walked.pairs,
+    })
 }
 
 // Why a certificate has no rows after inheritance, as a refusal.
@@ -75,29 +64,40 @@ fn uninherited(reason: Uninherited, certificate: u64) -> Refused
 // "14: inherit, and the issuer has no such space, or anchor"; "11: row 513 .. after inheritance"; then 15.
 fn inherit(own: &mut [u64], n: usize, issuer: &[u64], above: Above) -> Reply
     requires { (n ≤ max_rows) × (table_numbers ≤ length own.old) }
-    ensures { (result, own.new) ≡ spec.left (spec.after_presence (spec.seen_above above issuer.now) (rows_of n own.old)) own.old }
+    ensures { spec.zeroed result own.new ≡ spec.left (spec.after_presence (spec.seen_above above issuer.now) (rows_of n own.old)) own.old }
 {
     match inherits::inherit(own, n, issuer, above.rows) {
         Ok(total) => hold(own, total, issuer, above),
-        Err(reason) => refuse(own, uninherited(reason, above.certificates)),
+        Err(reason) => Err(uninherited(reason, above.certificates)),
     }
 }
 
-// "13: extension carried, issuer has none": the extension, IP first, or 0.
-fn lacked(ip: &[u8], ids: &[u8], above: Above) -> u64
+// "13: extension carried, issuer has none": the extension, IP first.
+fn lacked(ip: &[u8], ids: &[u8], above: Above) -> Option<u64>
     ensures { result ≡ spec.lacked ip.now ids.now above.ip above.ids }
 {
-    if 0 < ip.len() {
-        if !above.ip {
-            return limits::IP_EXTENSION;
-        }
+    if !ip.is_empty() && !above.ip {
+        return Some(limits::IP_EXTENSION);
     }
-    if 0 < ids.len() {
-        if !above.ids {
-            return limits::AS_EXTENSION;
-        }
+    if !ids.is_empty() && !above.ids {
+        return Some(limits::AS_EXTENSION);
     }
-    0
+    None
+}
+
+// The steps, over a table that is long enough. A refusal leaves any numbers in it, which `certificate` clears.
+fn steps(ip: &[u8], ids: &[u8], own: &mut [u64], issuer: &[u64], above: Above) -> Reply
+    requires { table_numbers ≤ length own.old }
+    ensures { spec.zeroed result own.new ≡ spec.left (spec.certificate (spec.seen_above above issuer.now) ip.now ids.now) own.old }
+{
+    let n = match readings::step_both(ip, ids, own) {
+        Reading::Rows(n) => n,
+        Reading::Refused(fault) => return Err(replies::named(fault, above.certificates)),
+    };
+    if let Some(extension) = lacked(ip, ids, above) {
+        return Err(readings::naming(Refusal::IssuerLacks, above.certificates, extension, 0));
+    }
+    inherit(own, n, issuer, above)
 }
 
 // Checks one certificate, its two values (empty where absent), against its issuer's table. Its rows are left in `own`, over the first numbers that it had; the later ones stay.
@@ -106,21 +106,11 @@ pub fn certificate(ip: &[u8], ids: &[u8], own: &mut [u64], issuer: &[u64], above
     ensures { (result, own.new) ≡ spec.checked (spec.seen_above above issuer.now) ip.now ids.now own.old }
 {
     if own.len() < rows::NUMBERS {
-        let short = readings::naming(Refusal::TableShort, 0, 0, 0);
-        return Err(short);
+        return Err(readings::naming(Refusal::TableShort, 0, 0, 0));
     }
-    match readings::step_both(ip, ids, own) {
-        Reading::Refused(fault) => {
-            let refused = replies::named(fault, above.certificates);
-            refuse(own, refused)
-        }
-        Reading::Rows(n) => {
-            let extension = lacked(ip, ids, above);
-            if extension == 0 {
-                return inherit(own, n, issuer, above);
-            }
-            let fault = readings::naming(Refusal::IssuerLacks, above.certificates, extension, 0);
-            refuse(own, fault)
-        }
+    let reply = steps(ip, ids, own, issuer, above);
+    if reply.is_err() {
+        rows::clear(own, rows::NUMBERS);
     }
+    reply
 }

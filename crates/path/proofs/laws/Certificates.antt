@@ -11,6 +11,7 @@ use native.Mathlib.Omega.{arith}
 use lib.ListN.{length, length-append}
 use lib.Dec.{eqb}
 use borrow.Author.Tests.{lt-ltb, le-ltb, ne_eqb}
+use Rattle.std.specs.Prelude.{Option, Some, None}
 use Rattle.number.specs.Tests.{pick}
 use Rattle.number.specs.declared.refusal.Refusal.TheVariants as refusal
 use Rattle.number.proofs.Picks.{below}
@@ -27,7 +28,7 @@ use Rattle.values.proofs.laws.Exact.{Kind, ip_reads, as_reads, encode_size}
 use Rattle.path.specs.Walk.{Result, covered, missing, walk}
 use Rattle.path.specs.Inherit.{Spaces}
 use Rattle.path.specs.Replies.{fault_at}
-use Rattle.path.specs.Certificate.{Above, Step, onward, carried, value_step, ip_step, as_step, read_step, lacked, spaces_step, count_step, walk_step, hold_step, after_inheritance, after_presence, after_reading, certificate}
+use Rattle.path.specs.Certificate.{Above, Step, onward, carried, value_step, ip_step, as_step, read_step, lacked, extensions_step, spaces_step, count_step, walk_step, hold_step, after_inheritance, after_presence, after_reading, certificate}
 use Rattle.path.specs.Demand.{Extension, absent, carries, Certificate, carried_rows, listing, Lacks, LacksIp, LacksIds, Present, Inheriting, rows_at, Fits, Proper, value_of, pairs_at, Smaller, Missing, Fault}
 use Rattle.path.proofs.laws.Walks.{Contained, Smallest, sound, smallest}
 use Rattle.path.proofs.laws.Lacking.{Covers, covers}
@@ -97,16 +98,16 @@ lacks_ids c p Passing.none = anchor_lacks (carried (value_of as_kind c.ids))
 lacks_ids c p (Passing.more {c = i} q h a) = extension_lacks {kind = as_kind} (inr refl) c.ids i.ids p.ids q.ids
 
 -- none, or the first of the two
-data Presence (c : Certificate) (line : List Certificate) : ℕ → Type 0 where
-  both : Present c line → Presence c line 0
-  no_ip : LacksIp c line → Presence c line ip_extension
-  no_ids : (LacksIp c line → ⊥) → LacksIds c line → Presence c line as_extension
+data Presence (c : Certificate) (line : List Certificate) : Option ℕ → Type 0 where
+  both : Present c line → Presence c line None
+  no_ip : LacksIp c line → Presence c line (Some ip_extension)
+  no_ids : (LacksIp c line → ⊥) → LacksIds c line → Presence c line (Some as_extension)
 
 presence : {line : List Certificate} (c : Certificate) → Proper c → Passing line → Presence c line (lacked (value_of ip_kind c.ip) (value_of as_kind c.ids) (has_ip line) (has_ids line))
 unfolding lacked
 presence {line} c p a = go (lacks_ip c p a) (lacks_ids c p a)
   where
-    go : {s t : Bool} → Says (LacksIp c line) s → Says (LacksIds c line) t → Presence c line (pick s ip_extension (pick t as_extension 0))
+    go : {s t : Bool} → Says (LacksIp c line) s → Says (LacksIds c line) t → Presence c line (pick s (Some ip_extension) (pick t (Some as_extension) None))
     go (Says.yes h) k = Presence.no_ip h
     go (Says.no n) (Says.yes h) = Presence.no_ids n h
     go (Says.no n) (Says.no m) = Presence.both (record { ip = n; ids = m })
@@ -178,7 +179,7 @@ module _ (c : Certificate) (line : List Certificate) (p : Proper c) (a : Passing
   unfolding after_reading
   presence_checks = go (presence c p a)
     where
-      go : {k : ℕ} → Presence c line k → Checks c line (onward (pick (eqb k 0) (is (listing c)) (isnt (fault_at refusal.IssuerLacks (length line) k 0 0))) (λ own. after_presence (above_of line) own))
+      go : {x : Option ℕ} → Presence c line x → Checks c line (onward (extensions_step (length line) x (listing c)) (λ own. after_presence (above_of line) own))
       go (Presence.both e) = inherit_checks e
       go (Presence.no_ip n) = Checks.at_fault (Fault.no_ip n)
       go (Presence.no_ids m n) = Checks.at_fault (Fault.no_ids m n)

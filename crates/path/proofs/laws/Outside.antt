@@ -11,7 +11,7 @@ use native.Mathlib.Omega.{arith}
 use lib.ListN.{length, get_or, take, drop}
 use lib.Dec.{ltb, eqb}
 use borrow.Author.Tests.{ltb-true, ltb-false, eqb-true, eqb-false}
-use Rattle.std.specs.Prelude.{Ok, Err}
+use Rattle.std.specs.Prelude.{Ok, Err, Some, None}
 use Rattle.number.specs.Tests.{pick}
 use Rattle.number.specs.Octets.{Octets}
 use Rattle.number.specs.Refusal.{number_of}
@@ -29,7 +29,7 @@ use Rattle.values.specs.declared.readings.Refused.{Refused}
 use Rattle.path.specs.Walk.{Result, covered, missing, walk}
 use Rattle.path.specs.Inherit.{Spaces, all, lacks, lacking, resolved}
 use Rattle.path.specs.Replies.{fault_at, extension_of, Reply}
-use Rattle.path.specs.Certificate.{Above, anchor, Step, onward, carried, blamed, value_step, ip_step, as_step, lacked, presence_step, spaces_step, walk_step, hold_step, after_inheritance, after_presence, after_reading, certificate}
+use Rattle.path.specs.Certificate.{Above, anchor, Step, onward, carried, blamed, value_step, ip_step, as_step, lacked, extensions_step, presence_step, spaces_step, walk_step, hold_step, after_inheritance, after_presence, after_reading, certificate}
 use Rattle.path.specs.Paths.{Values, below, descent, path_of, Left, leaves, bare, check}
 use Rattle.path.specs.Demand.{Lent, Sized, Marked, Counted, Written, Unframed, Outside}
 use Rattle.path.proofs.laws.Framing.{head_of_lem, marked, certificates_read, framing_finds, Framed, framing_exact}
@@ -274,14 +274,13 @@ ids_go k n v = value_goes k as_extension v (as_rows n v) (λ e. omega arith)
 
 -- 13,
 presence_goes : (a : Above) (ip ids : List ℕ) (rows : List Row) → Goes (presence_step a ip ids rows)
-presence_goes a ip ids rows = go (eqb x 0) refl
+unfolding lacked
+presence_goes a ip ids rows = go (pick (carried ip) (pick a.ip false true) false) (pick (carried ids) (pick a.ids false true) false)
   where
-    x : ℕ
-    x = lacked ip ids a.ip a.ids
-
-    go : (t : Bool) → eqb x 0 ≡ t → Goes (pick t (is rows) (isnt (fault_at refusal.IssuerLacks a.certificates x 0 0)))
-    go true e = Goes.on
-    go false e = Goes.stops (inl (eqb-false x 0 e))
+    go : (s t : Bool) → Goes (extensions_step a.certificates (pick s (Some ip_extension) (pick t (Some as_extension) None)) rows)
+    go true t = Goes.stops (inl (λ e. omega arith))
+    go false true = Goes.stops (inl (λ e. omega arith))
+    go false false = Goes.on
 
 -- 14,
 spaces_go : (k : ℕ) (x : Spaces) (rows : List Row) → Goes (spaces_step k x rows)
