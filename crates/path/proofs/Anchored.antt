@@ -9,7 +9,7 @@ use Prim.Native.Nat.{ℕ, zero, suc, min, ◌-◌, ◌%◌, ◌≤◌, ◌<◌}
 use native.Mathlib.Omega.{arith}
 use lib.ListN.{length, take, drop}
 use borrow.Author.Tests.{lt-ltb, le-ltb}
-use Rattle.std.specs.Prelude.{Ok, Err, Result}
+use Rattle.std.specs.Prelude.{Result, Ok, Err, MatchResult, IsErrAnd}
 use Rattle.number.specs.declared.refusal.Refusal.{Refusal}
 use Rattle.number.specs.declared.refusal.Refusal.TheVariants as refusal
 use Rattle.number.proofs.Picks.{rest_of}
@@ -23,6 +23,7 @@ use Rattle.path.specs.Paths.{descent, path_of, Left, tabled, leaves, bare, check
 use Rattle.path.specs.declared.certificates.Above as code
 use Rattle.path.proofs.Framed.{Bundled, bundled}
 use Rattle.path.proofs.Tabled.{full_none}
+use Rattle.values.specs.declared.readings.Refused.{Refused}
 use Rattle.path.specs.Replies.{Reply}
 
 -- THE TWO TABLES IN THEIR PLACES
@@ -69,6 +70,22 @@ module _ (count : ℕ) (values first second : List ℕ) (r : Reply) (first' seco
 -- the head of a bundle that `frame` found framed
 pub head_there : (b : List ℕ) (f : Result ℕ Refusal) (n : ℕ) → f ≡ frame_of b → f ≡ Ok n → 6 ≤ length b
 head_there b f n p q = (bundled b n (sym p ∙ q)).least
+
+-- what `frame` answered, by what its answer with the refusal named is
+module _ (f : Result ℕ Refusal) (m : Result ℕ Refused) (c : MatchResult f (λ n. m ≡ Ok n) (λ r. IsErrAnd m (λ x. ◌≡◌ {A = Reply} (Err x) (bare r)))) where
+  pub was_framed : (n : ℕ) → m ≡ Ok n → f ≡ Ok n
+  was_framed n h = go f c
+    where
+      go : (f : Result ℕ Refusal) → MatchResult f (λ n. m ≡ Ok n) (λ r. IsErrAnd m (λ x. ◌≡◌ {A = Reply} (Err x) (bare r))) → f ≡ Ok n
+      go (Ok k) e = let q : ◌≡◌ {A = Result ℕ Refused} (Ok k) (Ok n) = sym e ∙ h in let z : k ≡ n = cc in ap Ok z
+      go (Err r) e = absurd (rw h at e)
+
+  pub was_refused : (x : Refused) → m ≡ Err x → (r : Refusal) × (f ≡ Err r) × ◌≡◌ {A = Reply} (Err x) (bare r)
+  was_refused x h = go f c
+    where
+      go : (f : Result ℕ Refusal) → MatchResult f (λ n. m ≡ Ok n) (λ r. IsErrAnd m (λ x. ◌≡◌ {A = Reply} (Err x) (bare r))) → (r : Refusal) × (f ≡ Err r) × ◌≡◌ {A = Reply} (Err x) (bare r)
+      go (Ok k) e = let q : ◌≡◌ {A = Result ℕ Refused} (Ok k) (Err x) = sym e ∙ h in let z : ◌≡◌ {A = ℕ} 0 1 = cc in absurd (omega arith)
+      go (Err r) e = (r, refl, rw h at e)
 
 -- THE CHECK
 

@@ -18,7 +18,7 @@ use Rattle.number.specs.declared.halves.Halves.{Halves}
 use Rattle.number.specs.declared.refusal.Refusal.{Refusal}
 use Rattle.number.specs.declared.refusal.Refusal.TheVariants as refusal
 use Rattle.table.specs.Sizes.{max_rows, table_numbers}
-use Rattle.table.specs.Rows.{Row, room, rows_of, rows_in, with_rows, cleared}
+use Rattle.table.specs.Rows.{Row, room, rows_of, rows_in, with_rows}
 use Rattle.table.proofs.laws.Rows.{length-with_rows, rows_written, with_rows_over, cleared_rows}
 use Rattle.der.specs.Parts.{is, isnt}
 use Rattle.values.specs.Limits.{ip_extension, as_extension, as_numbers}

@@ -3,7 +3,6 @@ use mathlib.Core.Path.{◌≡◌, refl, sym, ap, ◌∙◌}
 use mathlib.Core.List.{List, [], ◌∷◌, ◌++◌}
 use mathlib.Core.Bool.{Bool, true, false}
 use Prim.Native.Nat.{ℕ, min, ◌+◌, ◌-◌, ◌*◌, ◌^◌, ◌≤◌, ◌<◌}
-use native.Mathlib.Nat.{sub-zero}
 use native.Mathlib.Omega.{arith}
 use lib.ListN.{length, take, drop, length-append}
 use lib.Dec.{eqb}
@@ -65,8 +64,8 @@ module _ {t : List ℕ} {m s k n : ℕ} (h : Counting t m s k n) where
 pub record Asking (o : Bool) (rest : List ℕ) : Type 0 where
   pub same : inherits (all_of rest) ≡ o
 
-pub ask_start : (t : List ℕ) (n : ℕ) → n ≤ room t → Asking (inherits (rows_of n t)) (take (row_numbers * n - 0) (drop 0 t))
-ask_start t n h = record { same = rw (sub-zero (row_numbers * n), rows_cut n t h) refl }
+pub ask_start : (t : List ℕ) (n : ℕ) → n ≤ room t → Asking (inherits (rows_of n t)) (take (row_numbers * n) t)
+ask_start t n h = record { same = rw (rows_cut n t h) refl }
 
 module _ {o : Bool} {rest : List ℕ} (h : Asking o rest) where
   -- no row is left

@@ -1,5 +1,5 @@
 -- The descent: what holds before each certificate, and what each way on from there leaves. Assumes nothing.
---     value_.., after_is, is_carried    the values as `value`, `after_value` and `below` find them
+--     value_.., after_is, is_carried    the values as `value` and `below` find them
 --     ip_there, ids_there               a certificate is left, so its two values are there
 --     descend_..                        the exits of `descend`
 --     rest_fits, few_pairs, descending  what it hands on to `clear_rest` and to itself
@@ -9,7 +9,8 @@ use mathlib.Core.Bool.{true}
 use Prim.Native.Nat.{ℕ, zero, suc, ◌+◌, ◌-◌, ◌*◌, ◌^◌, ◌≤◌, ◌<◌}
 use native.Mathlib.Numerals.{add-one}
 use native.Mathlib.Omega.{arith}
-use lib.ListN.{length, take, drop}
+use lib.ListN.{length, take, drop, length-drop}
+use lib.Seq.{drop-drop}
 use lib.Dec.{ltb}
 use borrow.Author.Tests.{lt-ltb, ne_eqb}
 use Rattle.std.specs.Prelude.{Some, None, Option, Ok, Err}
@@ -56,17 +57,17 @@ module _ (s : List ℕ) (b : Begun s) (n : ℕ) (e : n ≡ length_in s) where
   there : n ≡ length_of s
   there = length-there s n (omega (arith, b.inside)) e
 
-  -- where it ends,
-  pub value_inside : 2 + n ≤ length s
-  value_inside = omega (arith, there, b.inside)
+  -- it is there after the two octets,
+  pub value_inside : n ≤ length (take (length s - 2) (drop 2 s))
+  value_inside = rw (rest_of 2 s, length-drop) (omega (arith, there, b.inside))
 
   -- its octets,
-  pub value_is : take (2 + n - 2) (drop 2 s) ≡ value_in s
-  value_is = let k : 2 + n - 2 ≡ length_of s = omega (arith, there) in ap (λ (i : ℕ). take i (drop 2 s)) k
+  pub value_is : take n (take (length s - 2) (drop 2 s)) ≡ value_in s
+  value_is = rw (rest_of 2 s, there)
 
   -- and those after it
-  pub after_is : take (length s - (2 + n)) (drop (2 + n) s) ≡ after_value s
-  after_is = rest_of (2 + n) s ∙ ap (λ (i : ℕ). drop (2 + i) s) there
+  pub after_is : drop n (take (length s - 2) (drop 2 s)) ≡ after_value s
+  after_is = rw (rest_of 2 s, there) (drop-drop (length_of s) 2 s)
 
 -- whether a value is carried
 pub is_carried : (v : List ℕ) → ltb 0 (length v) ≡ carried v

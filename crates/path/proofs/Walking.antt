@@ -3,7 +3,6 @@ use mathlib.Core.Path.{◌≡◌, refl, sym, ap, ap₂, ◌∙◌}
 use mathlib.Core.List.{List, [], ◌∷◌}
 use mathlib.Core.Bool.{Bool, true, false}
 use Prim.Native.Nat.{ℕ, suc, min, ◌+◌, ◌-◌, ◌*◌, ◌≤◌, ◌<◌, ◌^◌}
-use native.Mathlib.Nat.{sub-zero}
 use native.Mathlib.Omega.{arith}
 use lib.ListN.{length, take, drop, length-take, length-drop}
 use Rattle.std.specs.Prelude.{Some, None}
@@ -69,13 +68,13 @@ pub record Walking (w : Walked) (left held : List ℕ) (pairs : ℕ) : Type 0 wh
 
 -- all rows are left
 pub walk_start : (own issuer : List ℕ) (n m last end : ℕ) → last ≡ min n (room own) → end ≡ min m (room issuer) → length own < 2 ^ 64 → length issuer < 2 ^ 64
-    → Walking (walk (rows_in n own) (rows_in m issuer)) (take (row_numbers * last - 0) (drop 0 own)) (take (row_numbers * end - 0) (drop 0 issuer)) 0
+    → Walking (walk (rows_in n own) (rows_in m issuer)) (take (row_numbers * last) own) (take (row_numbers * end) issuer) 0
 walk_start own issuer n m last end p q f g =
     let a = rows_cut last own (omega arith) in
     let b = rows_cut end issuer (omega arith) in
     record {
-      same = rw (sub-zero (row_numbers * last), sub-zero (row_numbers * end), a, b, p, q) (added_none (walk (rows_in n own) (rows_in m issuer)));
-      fits = omega (arith, length-take (row_numbers * last - 0) (drop 0 own), length-take (row_numbers * end - 0) (drop 0 issuer));
+      same = rw (a, b, p, q) (added_none (walk (rows_in n own) (rows_in m issuer)));
+      fits = omega (arith, length-take (row_numbers * last) own, length-take (row_numbers * end) issuer);
     }
 
 -- a run is shorter without its first row

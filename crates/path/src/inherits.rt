@@ -102,7 +102,7 @@ fn any_inherits(own: &[u64], n: usize) -> bool
     requires { n ≤ room own.now }
     ensures { result ≡ spec.inherits (rows_of n own.now) }
 {
-    let mut rest = &own[0..rows::ROW * n];
+    let mut rest = &own[..rows::ROW * n];
     while rows::ROW <= rest.len() {
         if rows::inherit(rest, 0) == 1 {
             return true;

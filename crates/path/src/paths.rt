@@ -1,5 +1,5 @@
 // The path check: a bundle, and two lent tables; the last certificate's rows in the first, or a refusal.
-ghost use Rattle.std.specs.Prelude.{◌≡◌, ◌+◌, ◌*◌, ◌^◌, ◌≤◌, ◌<◌, length};
+ghost use Rattle.std.specs.Prelude.{Err, ◌≡◌, ◌+◌, ◌*◌, ◌^◌, ◌≤◌, ◌<◌, length};
 ghost use Rattle.table.specs.Sizes.{row_numbers};
 ghost use Rattle.path.specs.Bundle.{value_in, after_value, certificates_in};
 ghost use Rattle.path.specs.Certificate.{anchor};
@@ -11,31 +11,21 @@ use crate::{bundles, certificates};
 use number::refusal::Refusal;
 use table::rows;
 use values::readings;
+use values::readings::Refused;
 
 // "Numbers 12 and 16 to 20 name certificate 0 and extension 0".
-fn refused(refusal: Refusal) -> Reply
-    ensures { result ≡ spec.bare refusal }
+fn bare(refusal: Refusal) -> Refused
+    ensures { Err result ≡ spec.bare refusal }
 {
-    let fault = readings::naming(refusal, 0, 0, 0);
-    Err(fault)
+    readings::naming(refusal, 0, 0, 0)
 }
 
-// Returns the value that s begins with, its length before it.
-fn value(s: &[u8]) -> &[u8]
+// Returns the value that s begins with, its length before it, and what comes after it.
+fn value(s: &[u8]) -> (&[u8], &[u8])
     requires { spec.Begun s.now }
-    ensures { result.now ≡ value_in s.now }
+    ensures { (result.0.now ≡ value_in s.now) × (result.1.now ≡ after_value s.now) }
 {
-    let end = 2 + bundles::length(s);
-    &s[2..end]
-}
-
-// Returns what comes after that value.
-fn after_value(s: &[u8]) -> &[u8]
-    requires { spec.Begun s.now }
-    ensures { result.now ≡ after_value s.now }
-{
-    let end = 2 + bundles::length(s);
-    &s[end..]
+    s[2..].split_at(bundles::length(s))
 }
 
 // A certificate with these two values and n rows after inheritance, as the next one's issuer.
@@ -82,29 +72,26 @@ fn descend(
             pairs,
         });
     }
-    let ip = value(rest);
-    let after = after_value(rest);
-    let ids = value(after);
-    match certificates::certificate(ip, ids, own, issuer, above) {
+    let (ip, rest) = value(rest);
+    let (ids, rest) = value(rest);
+    let done = match certificates::certificate(ip, ids, own, issuer, above) {
+        Ok(done) => done,
         Err(fault) => {
             rows::clear(issuer, rows::NUMBERS);
-            Err(fault)
+            return Err(fault);
         }
-        Ok(done) => {
-            let n = done.rows;
-            clear_rest(own, n, old);
-            let next = below(above, ip, ids, n);
-            descend(
-                left - 1,
-                after_value(after),
-                issuer,
-                above.rows,
-                own,
-                next,
-                pairs + done.pairs,
-            )
-        }
-    }
+    };
+    clear_rest(own, done.rows, old);
+    let next = below(above, ip, ids, done.rows);
+    descend(
+        left - 1,
+        rest,
+        issuer,
+        above.rows,
+        own,
+        next,
+        pairs + done.pairs,
+    )
 }
 
 // The descent from the anchor, with no rows in either table. The tables' roles are chosen so that the last certificate's rows end in the first.
@@ -130,16 +117,11 @@ fn descend_all(count: usize, certificates: &[u8], first: &mut [u64], second: &mu
 pub fn check(bundle: &[u8], first: &mut [u64], second: &mut [u64]) -> Reply
     ensures { (result, first.new, second.new) ≡ spec.check bundle.now first.old second.old }
 {
-    if first.len() < rows::NUMBERS {
-        return refused(Refusal::TableShort);
-    }
-    if second.len() < rows::NUMBERS {
-        return refused(Refusal::TableShort);
+    if first.len() < rows::NUMBERS || second.len() < rows::NUMBERS {
+        return Err(bare(Refusal::TableShort));
     }
     rows::clear(first, rows::NUMBERS);
     rows::clear(second, rows::NUMBERS);
-    match bundles::frame(bundle) {
-        Err(refusal) => refused(refusal),
-        Ok(count) => descend_all(count, &bundle[bundles::HEAD..], first, second),
-    }
+    let count = bundles::frame(bundle).map_err(bare)?;
+    descend_all(count, &bundle[bundles::HEAD..], first, second)
 }

@@ -27,12 +27,12 @@ pub fn fault_in(refusal: Refusal, certificate: u64, space: u64, value: Halves) -
         limits::AS_EXTENSION
     };
     Refused {
-        refusal: refusal,
-        certificate: certificate,
-        extension: extension,
+        refusal,
+        certificate,
+        extension,
         place: 0,
-        space: space,
-        value: value,
+        space,
+        value,
     }
 }
 
@@ -40,14 +40,8 @@ pub fn fault_in(refusal: Refusal, certificate: u64, space: u64, value: Halves) -
 pub fn named(fault: Refused, certificate: u64) -> Refused
     ensures { result ≡ spec.named certificate fault }
 {
-    let refusal = fault.refusal;
-    let value = fault.value;
     Refused {
-        refusal: refusal,
-        certificate: certificate,
-        extension: fault.extension,
-        place: fault.place,
-        space: fault.space,
-        value: value,
+        certificate,
+        ..fault
     }
 }

@@ -66,16 +66,12 @@ fn how(own: &[u64], issuer: &[u64]) -> Meet
     Meet::Apart(low)
 }
 
-fn stopped(space: u64, low: Halves, pairs: usize) -> Walked
-    ensures { result ≡ record { missing = Some (record { space = space; value = low }); pairs = pairs } }
+fn stopped(space: u64, value: Halves, pairs: usize) -> Walked
+    ensures { result ≡ record { missing = Some (record { space = space; value = value }); pairs = pairs } }
 {
-    let number = Missing {
-        space: space,
-        value: low,
-    };
     Walked {
-        missing: Some(number),
-        pairs: pairs,
+        missing: Some(Missing { space, value }),
+        pairs,
     }
 }
 
@@ -86,14 +82,14 @@ pub fn walk(own: &[u64], n: usize, issuer: &[u64], m: usize) -> Walked
 {
     let last = rows::ROW * rows::count(own, n);
     let end = rows::ROW * rows::count(issuer, m);
-    let mut left = &own[0..last];
-    let mut held = &issuer[0..end];
+    let mut left = &own[..last];
+    let mut held = &issuer[..end];
     let mut pairs: usize = 0;
     while rows::ROW <= left.len() {
         if held.len() < rows::ROW {
             return stopped(rows::space(left, 0), rows::low(left, 0), pairs);
         }
-        pairs = pairs + 1;
+        pairs += 1;
         match how(left, held) {
             Meet::Within => {
                 left = &left[rows::ROW..];
@@ -108,6 +104,6 @@ pub fn walk(own: &[u64], n: usize, issuer: &[u64], m: usize) -> Walked
     }
     Walked {
         missing: None,
-        pairs: pairs,
+        pairs,
     }
 }

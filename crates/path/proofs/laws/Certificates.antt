@@ -9,11 +9,9 @@ use mathlib.Core.Logic.{◌⊎◌, inl, inr}
 use Prim.Native.Nat.{ℕ, ◌+◌, ◌≤◌, ◌<◌}
 use native.Mathlib.Omega.{arith}
 use lib.ListN.{length, length-append}
-use lib.Dec.{eqb}
 use borrow.Author.Tests.{lt-ltb, le-ltb, ne_eqb}
 use Rattle.std.specs.Prelude.{Option, Some, None}
 use Rattle.number.specs.Tests.{pick}
-use Rattle.number.specs.declared.refusal.Refusal.TheVariants as refusal
 use Rattle.number.proofs.Picks.{below}
 use Rattle.table.specs.Sizes.{max_rows}
 use Rattle.table.specs.Spaces.{ip_kind, as_kind}
@@ -27,7 +25,6 @@ use Rattle.values.specs.declared.readings.Refused.{Refused}
 use Rattle.values.proofs.laws.Exact.{Kind, ip_reads, as_reads, encode_size}
 use Rattle.path.specs.Walk.{Result, covered, missing, walk}
 use Rattle.path.specs.Inherit.{Spaces}
-use Rattle.path.specs.Replies.{fault_at}
 use Rattle.path.specs.Certificate.{Above, Step, onward, carried, value_step, ip_step, as_step, read_step, lacked, extensions_step, spaces_step, count_step, walk_step, hold_step, after_inheritance, after_presence, after_reading, certificate}
 use Rattle.path.specs.Demand.{Extension, absent, carries, Certificate, carried_rows, listing, Lacks, LacksIp, LacksIds, Present, Inheriting, rows_at, Fits, Proper, value_of, pairs_at, Smaller, Missing, Fault}
 use Rattle.path.proofs.laws.Walks.{Contained, Smallest, sound, smallest}

@@ -1,5 +1,4 @@
 -- `path::bundles::frame` meets its contract. Assumes nothing.
-use borrow.Author.Rules.{rules}
 use borrow.Author.Tests.{not-true, not-false}
 use Rattle.number.proofs.Picks.{picks, via}
 use Rattle.path.specs.Bundle.{frame_of}
