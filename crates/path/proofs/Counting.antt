@@ -4,7 +4,8 @@ use mathlib.Core.List.{List, [], ◌∷◌, ◌++◌}
 use mathlib.Core.Bool.{Bool, true, false}
 use Prim.Native.Nat.{ℕ, min, ◌+◌, ◌-◌, ◌*◌, ◌^◌, ◌≤◌, ◌<◌}
 use native.Mathlib.Omega.{arith}
-use lib.ListN.{length, take, drop, length-append}
+use lib.ListN.{length, take, drop, length-append, get_or-append}
+use lib.Seq.{drop-append_seam}
 use lib.Dec.{eqb}
 use borrow.Author.Tests.{eq-eqb, ne_eqb}
 use Rattle.std.specs.Prelude.{Ok, Err}
@@ -13,6 +14,7 @@ use Rattle.number.proofs.Picks.{rest_of}
 use Rattle.table.specs.Sizes.{row_numbers, max_rows}
 use Rattle.table.specs.Rows.{Row, seen, in_halves, room, row_at, rows_of}
 use Rattle.table.specs.declared.rows.Row as code
+use Rattle.table.proofs.Columns.{front_alike, row_at_lem}
 use Rattle.table.proofs.laws.Rows.{length_rows_of, rows_split, all_of, rows_cut, rows_first, rows_none}
 use Rattle.path.specs.Inherit.{in_space, inherits, resolved, all, lacks, or_lacks, lacking, replaced, count_of}
 use Rattle.path.proofs.Parts.{rows_got, space_yes, space_no, lacking-append, lacking_last, resolved_last, few_replaced}
@@ -60,30 +62,45 @@ module _ {t : List ℕ} {m s k n : ℕ} (h : Counting t m s k n) where
 
 -- WHETHER A ROW INHERITS
 
--- o is what the definition gives for the whole; the rest is yet to be asked
-pub record Asking (o : Bool) (rest : List ℕ) : Type 0 where
+-- o is what the definition gives for the whole; the rest is yet to be asked, cut into rows
+pub record Asking (o : Bool) (rest : List ℕ) (size : ℕ) : Type 0 where
   pub same : inherits (all_of rest) ≡ o
+  pub row : size ≡ row_numbers
 
-pub ask_start : (t : List ℕ) (n : ℕ) → n ≤ room t → Asking (inherits (rows_of n t)) (take (row_numbers * n) t)
-ask_start t n h = record { same = rw (rows_cut n t h) refl }
+pub ask_start : (t : List ℕ) (n : ℕ) (rest : List ℕ) (size : ℕ) → n ≤ room t → rest ≡ take (row_numbers * n) t → size ≡ row_numbers → Asking (inherits (rows_of n t)) rest size
+ask_start t n rest size h e f = record { same = rw (e, rows_cut n t h) refl; row = f }
 
-module _ {o : Bool} {rest : List ℕ} (h : Asking o rest) where
+module _ {o : Bool} {rest : List ℕ} {size : ℕ} (h : Asking o rest size) where
   -- no row is left
-  pub ask_end : length rest < row_numbers → false ≡ o
-  ask_end p = sym (ap inherits (rows_none rest p)) ∙ h.same
+  pub ask_end : length rest < size → false ≡ o
+  ask_end p = sym (ap inherits (rows_none rest (omega (arith, h.row)))) ∙ h.same
 
-  module _ (p : row_numbers ≤ length rest) {m : ℕ} (e : m ≡ (row_at rest 0).inherit) where
-    -- the next row, and then the others
-    ask_next : pick (eqb m 1) true (inherits (all_of (drop row_numbers rest))) ≡ o
-    ask_next = rw (rows_first rest p, ← e) at h.same
+  -- a row is left
+  module _ (row next : List ℕ) (p : rest ≡ row ++ next) (l : length row ≡ size) {m : ℕ} (e : m ≡ (row_at row 0).inherit) where
+    long : row_numbers ≤ length rest
+    long = rw (p, length-append) (omega (arith, h.row))
+
+    -- it is the first,
+    first : row_at rest 0 ≡ row_at row 0
+    first =
+        row_at_lem rest 0 (omega (arith, long))
+        ∙ front_alike rest row (λ i b. rw p (get_or-append row next 0 i (omega (arith, h.row))))
+        ∙ sym (row_at_lem row 0 (omega (arith, h.row)))
+
+    -- and the others come after it
+    others : drop row_numbers rest ≡ next
+    others = rw p (ap (λ (i : ℕ). drop i (row ++ next)) (sym (l ∙ h.row)) ∙ drop-append_seam row next)
+
+    ask_next : pick (eqb m 1) true (inherits (all_of next)) ≡ o
+    ask_next = rw (rows_first rest long, first, others, ← e) at h.same
 
     -- it inherits
     pub ask_yes : m ≡ 1 → true ≡ o
     ask_yes y = rw (eq-eqb m 1 y) at ask_next
 
     -- it does not
-    pub ask_no : (m ≡ 1 → ⊥) → Asking o (take (length rest - row_numbers) (drop row_numbers rest))
-    ask_no y = rw (rest_of row_numbers rest) (record { same = rw (ne_eqb m 1 y) at ask_next })
+    pub ask_no : (m ≡ 1 → ⊥) → {size' : ℕ} → size' ≡ size → Asking o next size'
+    ask_no y q = record { same = rw (ne_eqb m 1 y) at ask_next; row = q ∙ h.row }
 
 -- ONE ROW
 

@@ -102,12 +102,10 @@ fn any_inherits(own: &[u64], n: usize) -> bool
     requires { n ≤ room own.now }
     ensures { result ≡ spec.inherits (rows_of n own.now) }
 {
-    let mut rest = &own[..rows::ROW * n];
-    while rows::ROW <= rest.len() {
-        if rows::inherit(rest, 0) == 1 {
+    for row in own[..rows::ROW * n].chunks_exact(rows::ROW) {
+        if rows::inherit(row, 0) == 1 {
             return true;
         }
-        rest = &rest[rows::ROW..];
     }
     false
 }

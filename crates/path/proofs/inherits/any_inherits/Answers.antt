@@ -3,14 +3,14 @@ use borrow.Author.Rules.{rules}
 use Rattle.path.proofs.Counting.{ask_start, ask_yes, ask_no, ask_end}
 use Rattle.path.proofs.inherits.any_inherits.Goals as goal
 
-pub loop-rest-init : goal.loop-rest-init
-loop-rest-init c = search (ask_start, rules)
+pub loop-row-init : goal.loop-row-init
+loop-row-init c = rw c.into_iter-row-iterator.ensures.into_iter_gives (ask_start c.args.own.now c.args.n _ _ c.requires c.chunks_exact-row-items.ensures.rest c.chunks_exact-row-items.ensures.size)
 
 pub returns-then-inherit-eq1 : goal.returns-then-inherit-eq1
-returns-then-inherit-eq1 c = search (ask_yes, rules)
+returns-then-inherit-eq1 c = ask_yes c.loop-row.invariant _ _ c.in-Some.ensures.steps.1.0 c.in-Some.ensures.steps.1.1 c.inherit.ensures c.if-inherit-eq1.true
 
-pub loop-rest-preserved : goal.loop-rest-preserved
-loop-rest-preserved c = search (ask_no, rules)
+pub loop-row-preserved : goal.loop-row-preserved
+loop-row-preserved c = ask_no c.loop-row.invariant _ _ c.in-Some.ensures.steps.1.0 c.in-Some.ensures.steps.1.1 c.inherit.ensures c.if-inherit-eq1.false c.in-Some.ensures.steps.0
 
 pub returns : goal.returns
-returns c = search (ask_end, rules)
+returns c = ask_end c.loop-row.invariant c.in-None.ensures.steps.1.0
