@@ -12,7 +12,7 @@ fn octets(rt: &impl Print, out: &[u8]) {
 
 fn reply(rt: &impl Print, writing: Writing, out: &[u8]) {
     match writing {
-        Writing::Octets(n) => {
+        Ok(n) => {
             let _ = rt.write_all(b"ok");
             answers::field(rt, n as u64);
             if n <= out.len() {
@@ -20,7 +20,7 @@ fn reply(rt: &impl Print, writing: Writing, out: &[u8]) {
             }
             let _ = rt.write_all(b"\n");
         }
-        Writing::Refused(fault) => {
+        Err(fault) => {
             answers::reading(rt, Reading::Refused(fault), &[]);
         }
     }

@@ -13,9 +13,8 @@ use Rattle.values.specs.Parted.{has_octets}
 use Rattle.values.specs.declared.readings.Refused.{Refused}
 use Rattle.values.specs.declared.readings.Reading.{Reading}
 use Rattle.values.specs.declared.readings.Reading.TheVariants as reading
-use Rattle.writer.specs.Writer.{write}
+use Rattle.writer.specs.Writer.{Writing, write}
 use Rattle.writer.specs.Papers as writer
-use Rattle.writer.specs.declared.Writing.{Writing}
 use Rattle.path.specs.Papers as replies
 use Rattle.path.specs.Paths as path
 use Rattle.face.specs.Face.{nine, part_of, parted, told, too_short, given, read_ip_face, read_as_face, write_face, path_face, fault_face, numbers}

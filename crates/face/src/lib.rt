@@ -99,8 +99,8 @@ fn of_writing(writing: Writing) -> Nine
     ensures { spec.numbers result ≡ writer.paper writing }
 {
     match writing {
-        Writing::Octets(n) => accepted(n, 0),
-        Writing::Refused(fault) => refused(fault),
+        Ok(n) => accepted(n, 0),
+        Err(fault) => refused(fault),
     }
 }
 

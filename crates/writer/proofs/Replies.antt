@@ -9,6 +9,7 @@ use native.Mathlib.Omega.{arith}
 use lib.ListN.{length}
 use lib.Dec.{eqb}
 use borrow.Author.Tests.{lt-ltb, le-ltb, ne_eqb}
+use Rattle.std.specs.Prelude.{Ok, Err}
 use Rattle.number.specs.Tests.{pick}
 use Rattle.number.specs.declared.refusal.Refusal.TheVariants as refusal
 use Rattle.table.specs.Spaces.{mixed_kind, ip_kind}
@@ -23,10 +24,8 @@ use Rattle.der.proofs.laws.Writing.{written_on, head_written_lem, element_is}
 use Rattle.values.specs.Limits.{as_extension}
 use Rattle.values.specs.Choices.{Choice}
 use Rattle.values.specs.Encode.{grouped, family_octets, member_octets, group_octets, encode}
-use Rattle.writer.specs.Writer.{families_most, refused_as, put, element_size, rowless, write}
+use Rattle.writer.specs.Writer.{Writing, families_most, refused_as, put, element_size, rowless, write}
 use Rattle.writer.specs.Families.{Table, Upto, families}
-use Rattle.writer.specs.declared.Writing.{Writing}
-use Rattle.writer.specs.declared.Writing.TheVariants as writing
 
 -- families by the kind
 module _ (kind : ℕ) where
@@ -88,8 +87,8 @@ module _ (kind : ℕ) (t out : List ℕ) where
 
     -- all is written: the head first, then the families behind it
     pub value_done : (start : ℕ) {left left' : List ℕ} → size ≤ length out → inner ≤ families_most → left ≡ head_written out 0 SEQUENCE inner → Upto left size (families kind t) start left'
-        → (writing.Octets size, left') ≡ put (element SEQUENCE (families kind t)) out
-    value_done start {left} {left'} l m v w = rw (size_is, le-ltb (length out) size l) (ap (λ (x : List ℕ). (writing.Octets size, x)) done)
+        → (Ok size, left') ≡ put (element SEQUENCE (families kind t)) out
+    value_done start {left} {left'} l m v w = rw (size_is, le-ltb (length out) size l) (ap (λ (x : List ℕ). (Ok size, x)) done)
       where
         head : List ℕ
         head = head_octets SEQUENCE (length (families kind t))

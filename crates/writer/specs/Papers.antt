@@ -1,15 +1,14 @@
 -- The answers of the writer in this paper's numbers: of a reply all nine; of a form 0, as nothing is refused, and its values. (proofs/laws/Papers: they tell the cases apart.)
-use Rattle.std.specs.Prelude.{ℕ, List, [], ◌∷◌}
+use Rattle.std.specs.Prelude.{ℕ, List, [], ◌∷◌, Ok, Err}
 use Rattle.values.specs.Papers.{refused, accepted}
+use Rattle.writer.specs.Writer.{Writing}
 use Rattle.writer.specs.declared.Form.{Form}
 use Rattle.writer.specs.declared.Form.TheVariants as form
-use Rattle.writer.specs.declared.Writing.{Writing}
-use Rattle.writer.specs.declared.Writing.TheVariants as writing
 
 -- "rows (the writer: octets)"
 abbrev pub paper : Writing → List ℕ
-paper (writing.Octets n) = accepted n 0
-paper (writing.Refused f) = refused f
+paper (Ok n) = accepted n 0
+paper (Err f) = refused f
 
 -- the bits that are kept: a prefix's, or min's and max's
 abbrev pub form_paper : Form → List ℕ

@@ -1,5 +1,5 @@
 -- The writer: reply and output. "Writer: 19, 8 (AS kind without rows), 20." "The writer changes only the octets it reports; a refusal changes none and reports 0."
-use Rattle.std.specs.Prelude.{ℕ, ◌+◌, ◌*◌, ◌^◌, ◌≤◌, ◌<◌, List, Bool, false, length, ltb, eqb}
+use Rattle.std.specs.Prelude.{ℕ, ◌+◌, ◌*◌, ◌^◌, ◌≤◌, ◌<◌, List, Bool, false, Result, Ok, Err, length, ltb, eqb}
 use Rattle.number.specs.Tests.{pick}
 use Rattle.number.specs.Halves.{bits}
 use Rattle.number.specs.declared.refusal.Refusal.{Refusal}
@@ -12,12 +12,15 @@ use Rattle.der.specs.Head.{head_size}
 use Rattle.der.specs.Written.{written}
 use Rattle.values.specs.Limits.{as_extension}
 use Rattle.values.specs.Readings.{naming}
+use Rattle.values.specs.declared.readings.Refused.{Refused}
 use Rattle.values.specs.Forms.{Form, prefix, range}
 use Rattle.values.specs.Encode.{encode}
 use Rattle.writer.specs.declared.Form as code
 use Rattle.writer.specs.declared.Form.TheVariants as form
-use Rattle.writer.specs.declared.Writing.{Writing}
-use Rattle.writer.specs.declared.Writing.TheVariants as writing
+
+-- how many octets were written, or a refusal
+abbrev pub Writing : Type 0
+Writing = Result ℕ Refused
 
 -- a reply, and the output that is left
 abbrev pub Left : Type 0
@@ -25,11 +28,11 @@ Left = Writing × List ℕ
 
 -- "Numbers 12 and 16 to 20 name certificate 0 and extension 0"; "The writer's 8 has extension 2 and place 0."
 abbrev pub refused_as : Refusal → ℕ → Writing
-refused_as r extension = writing.Refused (naming r 0 extension 0)
+refused_as r extension = Err (naming r 0 extension 0)
 
 -- "output shorter than the encoding"
 abbrev pub put : List ℕ → List ℕ → Left
-put e out = pick (ltb (length out) (length e)) (refused_as refusal.OutputShort 0, out) (writing.Octets (length e), written out 0 e)
+put e out = pick (ltb (length out) (length e)) (refused_as refusal.OutputShort 0, out) (Ok (length e), written out 0 e)
 
 -- a table lacks the row that its kind asks for: "an AS table at least one"
 unfoldable pub rowless : ℕ → ℕ → Bool

@@ -213,7 +213,7 @@ fn put_value(kind: u64, table: &[u64], out: &mut [u8]) -> Writing
     }
     heads::put_head(out, 0, tags::SEQUENCE, inner);
     put(kind, table, out, all);
-    Writing::Octets(all)
+    Ok(all)
 }
 
 // Writes the value of a table of the kind, 1 (IP) or 2 (AS), to the start of `out`.

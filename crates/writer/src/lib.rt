@@ -30,17 +30,13 @@ use values::readings::Refused;
 use values::{limits, readings};
 
 // How many octets were written, or a refusal.
-#[derive(Clone, Copy)]
-pub enum Writing {
-    Octets(usize),
-    Refused(Refused),
-}
+pub type Writing = Result<usize, Refused>;
 
 // A refusal of the writer: "Numbers 12 and 16 to 20 name certificate 0 and extension 0"; "The writer's 8 has extension 2 and place 0".
 fn refuse(refusal: Refusal, extension: u64) -> Writing
     ensures { result ≡ spec.refused_as refusal extension }
 {
-    Writing::Refused(readings::naming(refusal, 0, extension, 0))
+    Err(readings::naming(refusal, 0, extension, 0))
 }
 
 // How many octets an element with so many octets of contents has.
