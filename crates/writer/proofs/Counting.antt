@@ -33,7 +33,7 @@ module _ {kind : ℕ} {t : List ℕ} (b : Table kind t) {k : ℕ} {list : Open} 
 
   -- after a row
   pub count_turn : {row : code.Row} {list' : Open} (n m : ℕ) → 0 < k → row ≡ in_halves (row_at t (k - 1)) → n ≡ length (own kind (seen row)) → m ≡ length (closing kind list (seen row)) → list' ≡ onward list (seen row) n
-      → Counted kind t (k - 1) list' (size + m + n)
+      → Counted kind t (k - 1) list' (size + (m + n))
   count_turn {row} {list'} n m h e q r f =
       let u = closing kind list (seen row) in
       let w = tail kind (passed t k) in

@@ -103,14 +103,12 @@ fn size(kind: u64, table: &[u64]) -> usize
     requires { spec.Table kind table.now }
     ensures { (result ≡ length (spec.families kind table.now)) × (result ≤ reply.families_most) }
 {
-    let mut k = table.len() / rows::ROW;
     let mut list = NONE;
     let mut size: usize = 0;
-    while 0 < k {
-        k -= 1;
+    for k in (0..table.len() / rows::ROW).rev() {
         let row = rows::get(table, k);
         let n = own_size(kind, row);
-        size = size + closing_size(kind, list, row) + n;
+        size += closing_size(kind, list, row) + n;
         list = onward(list, row, n);
     }
     size + open_size(kind, list)
@@ -177,11 +175,9 @@ fn put(kind: u64, table: &[u64], out: &mut [u8], end: usize) -> usize
     requires { spec.Table kind table.now × (length (spec.families kind table.now) ≤ end) × (end ≤ length out.old) }
     ensures { spec.Upto out.old end (spec.families kind table.now) result out.new }
 {
-    let mut k = table.len() / rows::ROW;
     let mut list = NONE;
     let mut at = end;
-    while 0 < k {
-        k -= 1;
+    for k in (0..table.len() / rows::ROW).rev() {
         let row = rows::get(table, k); // the next one towards the first
         let behind = put_closing(out, at, kind, list, row);
         let start = put_own(out, behind, kind, row);

@@ -3,6 +3,3 @@ use Rattle.writer.proofs.families.put.Given as goal
 
 abbrev pub invariant-loop-k : goal.invariant-loop-k
 invariant-loop-k l = Placed l.kind l.table l.initial.out l.end l.k l.list l.at l.out
-
-abbrev pub decreases-loop-k : goal.decreases-loop-k
-decreases-loop-k l = l.k

@@ -3,6 +3,3 @@ use Rattle.writer.proofs.families.size.Given as goal
 
 abbrev pub invariant-loop-k : goal.invariant-loop-k
 invariant-loop-k l = Counted l.kind l.table l.k l.list l.size
-
-abbrev pub decreases-loop-k : goal.decreases-loop-k
-decreases-loop-k l = l.k
