@@ -31,10 +31,7 @@ const NONE: Open = Open { space: 0, size: 0 };
 fn joins(list: Open, row: Row) -> bool
     ensures { result ≡ spec.joins list (seen row) }
 {
-    if row.inherit == 1 {
-        return false;
-    }
-    row.space == list.space
+    row.inherit != 1 && row.space == list.space
 }
 
 // The open list with a row of n octets in front.
@@ -191,10 +188,7 @@ fn put(kind: u64, table: &[u64], out: &mut [u8], end: usize) -> usize
 fn rowless(kind: u64, count: usize) -> bool
     ensures { result ≡ reply.rowless kind count }
 {
-    if kind == spaces::AS {
-        return count == 0;
-    }
-    false
+    kind == spaces::AS && count == 0
 }
 
 // Writes the value of a table to the start of `out`, if it has room.
@@ -217,10 +211,7 @@ fn put_value(kind: u64, table: &[u64], out: &mut [u8]) -> Writing
 pub fn write(kind: u64, table: &[u64], out: &mut [u8]) -> Writing
     ensures { (result, out.new) ≡ reply.write kind table.now out.old }
 {
-    if kind == spaces::MIXED {
-        return refuse(Refusal::NotATable, 0);
-    }
-    if !tables::is_table(kind, table) {
+    if kind == spaces::MIXED || !tables::is_table(kind, table) {
         return refuse(Refusal::NotATable, 0);
     }
     if rowless(kind, table.len() / rows::ROW) {
