@@ -34,12 +34,10 @@ fn glyph(d: u64) -> u8
 fn spell_decimal(run: &mut [u8], n: u64) -> usize
     ensures { (result ≤ length run.old) × (drop result run.new ≡ text.decimal_from (length run.old) n []) }
 {
-    let mut k = run.len();
     let mut left = n;
-    while 0 < k {
-        k = k - 1;
+    for k in (0..run.len()).rev() {
         run[k] = glyph(left % 10);
-        left = left / 10;
+        left /= 10;
         if left == 0 {
             return k;
         }
@@ -51,12 +49,10 @@ fn spell_decimal(run: &mut [u8], n: u64) -> usize
 fn spell_hex(run: &mut [u8], n: u64)
     ensures { run.new ≡ text.hex_from (length run.old) n [] }
 {
-    let mut k = run.len();
     let mut left = n;
-    while 0 < k {
-        k = k - 1;
+    for k in (0..run.len()).rev() {
         run[k] = glyph(left % 16);
-        left = left / 16;
+        left /= 16;
     }
 }
 
@@ -131,11 +127,9 @@ fn put_rows(out: &mut [u8], at: usize, table: &[u64], n: usize) -> usize
     requires { (n ≤ room table.now) × (at + length (text.row_lines (rows_of n table.now)) ≤ length out.old) }
     ensures { (result, out.new) ≡ put out.old at (text.row_lines (rows_of n table.now)) }
 {
-    let mut k: usize = 0;
     let mut next = at;
-    while k < n {
+    for k in 0..n {
         next = put_row(out, next, rows::get(table, k));
-        k = k + 1;
     }
     next
 }

@@ -4,6 +4,3 @@ use Rattle.report.proofs.spell_decimal.Given as goal
 
 abbrev pub invariant-loop-k : goal.invariant-loop-k
 invariant-loop-k l = Spelled decimal_from l.initial.run l.n l.run l.k l.left
-
-abbrev pub decreases-loop-k : goal.decreases-loop-k
-decreases-loop-k l = l.k

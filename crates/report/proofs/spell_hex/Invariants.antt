@@ -4,6 +4,3 @@ use Rattle.report.proofs.spell_hex.Given as goal
 
 abbrev pub invariant-loop-k : goal.invariant-loop-k
 invariant-loop-k l = Spelled hex_from l.initial.run l.n l.run l.k l.left
-
-abbrev pub decreases-loop-k : goal.decreases-loop-k
-decreases-loop-k l = l.k
