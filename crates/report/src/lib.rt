@@ -25,9 +25,9 @@ fn glyph(d: u64) -> u8
     ensures { result ≡ text.glyph d }
 {
     if d < 10 {
-        return (48 + d) as u8;
+        return b'0' + d as u8;
     }
-    (87 + d) as u8
+    b'a' + (d - 10) as u8
 }
 
 // The decimal digits of n at the end of a run, from the last to the first. Returns where they start.
