@@ -6,16 +6,11 @@ use values::readings::Reading;
 
 // A field: a blank, and a number.
 pub fn field(rt: &impl Print, n: u64) {
-    let _ = rt.write_all(b" ");
-    let _ = rt.print(n);
+    let _ = print!(rt; " {n}");
 }
 
 fn value_field(rt: &impl Print, value: Halves) {
-    let upper = value.upper;
-    let lower = value.lower;
-    let _ = rt.write_all(b" ");
-    let _ = print!(rt; "{upper:016x}");
-    let _ = print!(rt; "{lower:016x}");
+    let _ = print!(rt; " {:016x}{:016x}", value.upper, value.lower);
 }
 
 // The numbers of so many rows, with commas between them.

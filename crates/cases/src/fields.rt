@@ -1,7 +1,6 @@
 // The fields of a case on standard input.
-ghost use Rattle.std.specs.Prelude.{◌<◌, ◌≤◌, length};
+ghost use Rattle.std.specs.Prelude.{◌≤◌, length};
 
-use number::address;
 use std::io::Read;
 
 // Reads until the room is full, the input ends or a read fails. Returns how many octets it put at the start of the room.
@@ -11,7 +10,7 @@ pub fn read_full(input: &mut impl Read, room: &mut [u8]) -> usize
     let mut done: usize = 0;
     while done < room.len() {
         match input.read(&mut room[done..]) {
-            Err(_) | Ok(0) => return done,
+            Err(_) | Ok(0) => break,
             Ok(more) => done += more,
         }
     }
@@ -22,42 +21,32 @@ pub fn read_full(input: &mut impl Read, room: &mut [u8]) -> usize
 pub fn number(input: &mut impl Read) -> usize {
     let mut two = [0u8; 2];
     read_full(input, &mut two);
-    let high = two[0];
-    let low = two[1];
-    wide(high) * 256 + wide(low)
-}
-
-// An octet as a number.
-pub fn wide(x: u8) -> usize
-    ensures { result < 256 }
-{
-    x as usize
+    usize::from(u16::from_be_bytes(two))
 }
 
 // Octets with their count before them; none where there is no room for so many.
-pub fn octets(input: &mut impl Read, room: &mut [u8]) -> usize {
+pub fn octets<'a>(input: &mut impl Read, room: &'a mut [u8]) -> &'a [u8] {
     let n = number(input);
     if room.len() < n {
-        return 0;
+        return &[];
     }
-    read_full(input, &mut room[0..n])
+    let done = read_full(input, &mut room[..n]);
+    &room[..done]
 }
 
 // A number of eight octets, high octet first.
 pub fn long(input: &mut impl Read) -> u64 {
     let mut eight = [0u8; 8];
     read_full(input, &mut eight);
-    address::spelled(&eight)
+    u64::from_be_bytes(eight)
 }
 
 // Numbers of eight octets with their count before them; as many as there is room for.
-pub fn longs(input: &mut impl Read, room: &mut [u64]) -> usize {
-    let n = number(input);
-    for k in 0..room.len() {
-        if k == n {
-            return k;
-        }
-        room[k] = long(input);
+pub fn longs<'a>(input: &mut impl Read, room: &'a mut [u64]) -> &'a [u64] {
+    let n = number(input).min(room.len());
+    let numbers = &mut room[..n];
+    for place in numbers.iter_mut() {
+        *place = long(input);
     }
-    room.len()
+    numbers
 }

@@ -14,94 +14,60 @@ use values::readings;
 // What the lent tables hold before a call.
 const RUBBISH: u64 = 0xdeadbeef;
 
-// R: the first n octets of the room are a value, and the first numbers of the table are lent.
-fn read_alone(
-    rt: &impl Print,
-    extension: usize,
-    room: &[u8],
-    n: usize,
-    table: &mut [u64],
-    length: usize,
-) {
-    if room.len() < n {
-        return;
-    }
-    if table.len() < length {
-        return;
-    }
-    if extension == 1 {
-        let reading = readings::read_ip(&room[0..n], &mut table[0..length]);
-        answers::reading(rt, reading, table);
-        return;
-    }
-    let reading = readings::read_as(&room[0..n], &mut table[0..length]);
-    answers::reading(rt, reading, table);
-}
-
+// R: a value, and how many numbers of the table are lent.
 fn reader_case(rt: &impl Print, input: &mut impl Read) {
     let mut table = [RUBBISH; 4096];
     let mut room = [0u8; 40000];
     let extension = fields::number(input);
     let length = fields::number(input);
-    let n = fields::octets(input, &mut room);
-    read_alone(rt, extension, &room, n, &mut table, length);
+    let value = fields::octets(input, &mut room);
+    let Some(lent) = table.get_mut(..length) else {
+        return;
+    };
+    let reading = if extension == 1 {
+        readings::read_ip(value, lent)
+    } else {
+        readings::read_as(value, lent)
+    };
+    answers::reading(rt, reading, &table);
 }
 
 // F: the octets at fault of one certificate's two values, and the reply of their reading.
 fn part_case(rt: &impl Print, input: &mut impl Read) {
     let mut table = [RUBBISH; 4096];
-    let mut ip = [0u8; 40000];
-    let mut ids = [0u8; 40000];
+    let mut first = [0u8; 40000];
+    let mut second = [0u8; 40000];
     let length = fields::number(input);
-    let n = fields::octets(input, &mut ip);
-    let m = fields::octets(input, &mut ids);
-    parted::run(rt, &ip, n, &ids, m, &mut table, length);
+    let ip = fields::octets(input, &mut first);
+    let ids = fields::octets(input, &mut second);
+    parted::run(rt, ip, ids, &mut table, length);
 }
 
+// W: a kind, rows, and how many octets of the output are lent.
 fn writer_case(rt: &impl Print, input: &mut impl Read) {
     let mut numbers = [RUBBISH; 4096];
     let mut out = [0xeeu8; 40000];
     let kind = fields::long(input);
-    let n = fields::longs(input, &mut numbers);
+    let table = fields::longs(input, &mut numbers);
     let room = fields::number(input);
-    written::run(rt, kind, &numbers, n, &mut out, room);
+    written::run(rt, kind, table, &mut out, room);
 }
 
-// P: the first n octets of the room are a bundle, and the first numbers of both tables are lent.
-fn check_path(
-    rt: &impl Print,
-    room: &[u8],
-    n: usize,
-    first: &mut [u64],
-    length: usize,
-    second: &mut [u64],
-    other: usize,
-) {
-    if room.len() < n {
-        return;
-    }
-    if first.len() < length {
-        return;
-    }
-    if second.len() < other {
-        return;
-    }
-    let reply = paths::check(&room[0..n], &mut first[0..length], &mut second[0..other]);
-    let mut text = [0u8; report::ROOM];
-    let end = report::report(reply, first, &mut text);
-    if end <= report::ROOM {
-        let _ = rt.write_all(&text[0..end]);
-    }
-}
-
+// P: a bundle, and how many numbers of both tables are lent.
 fn path_case(rt: &impl Print, input: &mut impl Read) {
     let mut first = [RUBBISH; 4096];
     let mut second = [RUBBISH; 4096];
     let mut room = [0u8; 65536];
     let length = fields::number(input);
     let other = fields::number(input);
-    let n = fields::octets(input, &mut room);
-    check_path(rt, &room, n, &mut first, length, &mut second, other);
+    let bundle = fields::octets(input, &mut room);
+    let (Some(one), Some(two)) = (first.get_mut(..length), second.get_mut(..other)) else {
+        return;
+    };
+    let reply = paths::check(bundle, one, two);
+    let mut text = [0u8; report::ROOM];
+    let n = report::report(reply, &first, &mut text);
+    let _ = rt.write_all(&text[..n.min(report::ROOM)]);
 }
 
 fn main(rt: HostRuntime) {
@@ -111,8 +77,7 @@ fn main(rt: HostRuntime) {
         if fields::read_full(&mut input, &mut letter) == 0 {
             return;
         }
-        let which = letter[0];
-        match which {
+        match letter[0] {
             b'R' => reader_case(&rt, &mut input),
             b'W' => writer_case(&rt, &mut input),
             b'P' => path_case(&rt, &mut input),

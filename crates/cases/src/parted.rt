@@ -64,26 +64,12 @@ fn reply(rt: &impl Print, reading: Reading, table: &[u64]) {
     let _ = rt.write_all(b"\n");
 }
 
-// The first octets of each room are its value, and the first numbers of the table are lent.
-pub fn run<'a>(
-    rt: &impl Print,
-    ip: &'a [u8],
-    n: usize,
-    ids: &'a [u8],
-    m: usize,
-    table: &mut [u64],
-    length: usize,
-) {
-    if ip.len() < n {
+// The first numbers of the table are lent.
+pub fn run(rt: &impl Print, ip: &[u8], ids: &[u8], table: &mut [u64], length: usize) {
+    let Some(lent) = table.get_mut(..length) else {
         return;
-    }
-    if ids.len() < m {
-        return;
-    }
-    if table.len() < length {
-        return;
-    }
-    let reading = readings::read_both(&ip[0..n], &ids[0..m], &mut table[0..length]);
-    part(rt, &ip[0..n], &ids[0..m], &mut table[0..length], reading);
+    };
+    let reading = readings::read_both(ip, ids, lent);
+    part(rt, ip, ids, lent, reading);
     reply(rt, reading, table);
 }

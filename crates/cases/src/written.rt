@@ -3,37 +3,26 @@ use crate::answers;
 use values::readings::Reading;
 use writer::Writing;
 
-fn octets(rt: &impl Print, out: &[u8]) {
-    let _ = rt.write_all(b" ");
-    for octet in out {
-        let _ = print!(rt; "{octet:02x}");
-    }
-}
-
 fn reply(rt: &impl Print, writing: Writing, out: &[u8]) {
     match writing {
         Ok(n) => {
             let _ = rt.write_all(b"ok");
             answers::field(rt, n as u64);
-            if n <= out.len() {
-                octets(rt, &out[0..n]);
+            let _ = rt.write_all(b" ");
+            for octet in out.iter().take(n) {
+                let _ = print!(rt; "{octet:02x}");
             }
             let _ = rt.write_all(b"\n");
         }
-        Err(fault) => {
-            answers::reading(rt, Reading::Refused(fault), &[]);
-        }
+        Err(fault) => answers::reading(rt, Reading::Refused(fault), &[]),
     }
 }
 
-// The first n numbers of the run are the rows, and the first octets of the output are lent.
-pub fn run(rt: &impl Print, kind: u64, numbers: &[u64], n: usize, out: &mut [u8], room: usize) {
-    if numbers.len() < n {
+// The first octets of the output are lent.
+pub fn run(rt: &impl Print, kind: u64, table: &[u64], out: &mut [u8], room: usize) {
+    let Some(lent) = out.get_mut(..room) else {
         return;
-    }
-    if out.len() < room {
-        return;
-    }
-    let writing = writer::write(kind, &numbers[0..n], &mut out[0..room]);
-    reply(rt, writing, out);
+    };
+    let writing = writer::write(kind, table, lent);
+    reply(rt, writing, lent);
 }
