@@ -67,7 +67,7 @@ fn path_case(rt: &impl Print, input: &mut impl Read) {
     let reply = paths::check(bundle, one, two);
     let mut text = [0u8; report::ROOM];
     let n = report::report(reply, &first, &mut text);
-    let _ = rt.write_all(&text[..n.min(report::ROOM)]);
+    let _ = rt.write_all(&text[..n]);
 }
 
 fn main(rt: HostRuntime) {

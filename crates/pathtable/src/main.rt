@@ -28,7 +28,7 @@ fn print_table(rt: &impl Print, bundle: &[u8]) -> io::Result<()> {
     let mut text = [0u8; report::ROOM];
     let reply = paths::check(bundle, &mut first, &mut second);
     let n = report::report(reply, &first, &mut text);
-    rt.write_all(&text[..n.min(report::ROOM)])
+    rt.write_all(&text[..n])
 }
 
 fn main(rt: HostRuntime) {

@@ -27,7 +27,7 @@ impl Lent {
         let _ = input.read_exact(bundle);
         let reply = paths::check(bundle, &mut self.first, &mut self.second);
         let n = report::report(reply, &self.first, &mut self.text);
-        let _ = rt.write_all(&self.text[..n.min(report::ROOM)]);
+        let _ = rt.write_all(&self.text[..n]);
         Some(())
     }
 }
