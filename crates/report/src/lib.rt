@@ -56,82 +56,98 @@ fn spell_hex(run: &mut [u8], n: u64)
     }
 }
 
-// Writes characters at a place. Returns the place after them.
-fn put_text(out: &mut [u8], at: usize, s: &[u8]) -> usize
-    requires { at + length s.now ≤ length out.old }
-    ensures { (result, out.new) ≡ put out.old at s.now }
-{
-    writing::put(out, at, s);
-    at + s.len()
+// A text that is being written: the run that it is written to, and the place after it.
+// Each method writes a part behind it, into the same run, for which it asks room.
+#[derive(Drop)]
+struct Text<'a> {
+    out: &'a mut [u8],
+    at: usize,
 }
 
-fn put_decimal(out: &mut [u8], at: usize, n: u64) -> usize
-    requires { at + length (text.decimal n) ≤ length out.old }
-    ensures { (result, out.new) ≡ put out.old at (text.decimal n) }
-{
-    let mut digits = [0u8; 20];
-    let start = spell_decimal(&mut digits, n);
-    put_text(out, at, &digits[start..])
-}
-
-// A number of 64 bits as 16 hexadecimal digits.
-fn put_half(out: &mut [u8], at: usize, n: u64) -> usize
-    requires { at + length (text.hex_from 16 n []) ≤ length out.old }
-    ensures { (result, out.new) ≡ put out.old at (text.hex_from 16 n []) }
-{
-    let mut digits = [0u8; 16];
-    spell_hex(&mut digits, n);
-    put_text(out, at, &digits)
-}
-
-// A number of 128 bits as 32 hexadecimal digits.
-fn put_hex(out: &mut [u8], at: usize, n: Halves) -> usize
-    requires { at + length (text.hexadecimal (whole n)) ≤ length out.old }
-    ensures { (result, out.new) ≡ put out.old at (text.hexadecimal (whole n)) }
-{
-    let next = put_half(out, at, n.upper);
-    put_half(out, next, n.lower)
-}
-
-// A blank, and a number.
-fn put_field(out: &mut [u8], at: usize, n: u64) -> usize
-    requires { at + length (text.field n) ≤ length out.old }
-    ensures { (result, out.new) ≡ put out.old at (text.field n) }
-{
-    let next = put_text(out, at, b" ");
-    put_decimal(out, next, n)
-}
-
-// A blank, and a number of 128 bits.
-fn put_hex_field(out: &mut [u8], at: usize, n: Halves) -> usize
-    requires { at + length (text.hex_field (whole n)) ≤ length out.old }
-    ensures { (result, out.new) ≡ put out.old at (text.hex_field (whole n)) }
-{
-    let next = put_text(out, at, b" ");
-    put_hex(out, next, n)
-}
-
-// "per row space, low, high".
-fn put_row(out: &mut [u8], at: usize, row: Row) -> usize
-    requires { at + length (text.row_line (seen row)) ≤ length out.old }
-    ensures { (result, out.new) ≡ put out.old at (text.row_line (seen row)) }
-{
-    let low = put_decimal(out, at, row.space);
-    let high = put_hex_field(out, low, row.low);
-    let end = put_hex_field(out, high, row.high);
-    put_text(out, end, b"\n")
-}
-
-// The first n rows of a table, a line each.
-fn put_rows(out: &mut [u8], at: usize, table: &[u64], n: usize) -> usize
-    requires { (n ≤ room table.now) × (at + length (text.row_lines (rows_of n table.now)) ≤ length out.old) }
-    ensures { (result, out.new) ≡ put out.old at (text.row_lines (rows_of n table.now)) }
-{
-    let mut next = at;
-    for k in 0..n {
-        next = put_row(out, next, rows::get(table, k));
+impl<'a> Text<'a> {
+    // Characters.
+    fn put(&mut self, s: &[u8])
+        requires { self.old.at + length s.now ≤ length self.old.out.now }
+        ensures same_run { self.new.out.ghost_name ≡ self.old.out.ghost_name }
+        ensures written { (self.new.at, self.new.out.now) ≡ put self.old.out.now self.old.at s.now }
+    {
+        writing::put(self.out, self.at, s);
+        self.at += s.len();
     }
-    next
+
+    fn decimal(&mut self, n: u64)
+        requires { self.old.at + length (text.decimal n) ≤ length self.old.out.now }
+        ensures same_run { self.new.out.ghost_name ≡ self.old.out.ghost_name }
+        ensures written { (self.new.at, self.new.out.now) ≡ put self.old.out.now self.old.at (text.decimal n) }
+    {
+        let mut digits = [0u8; 20];
+        let start = spell_decimal(&mut digits, n);
+        self.put(&digits[start..]);
+    }
+
+    // A number of 64 bits as 16 hexadecimal digits.
+    fn half(&mut self, n: u64)
+        requires { self.old.at + length (text.hex_from 16 n []) ≤ length self.old.out.now }
+        ensures same_run { self.new.out.ghost_name ≡ self.old.out.ghost_name }
+        ensures written { (self.new.at, self.new.out.now) ≡ put self.old.out.now self.old.at (text.hex_from 16 n []) }
+    {
+        let mut digits = [0u8; 16];
+        spell_hex(&mut digits, n);
+        self.put(&digits);
+    }
+
+    // A number of 128 bits as 32 hexadecimal digits.
+    fn hexadecimal(&mut self, n: Halves)
+        requires { self.old.at + length (text.hexadecimal (whole n)) ≤ length self.old.out.now }
+        ensures same_run { self.new.out.ghost_name ≡ self.old.out.ghost_name }
+        ensures written { (self.new.at, self.new.out.now) ≡ put self.old.out.now self.old.at (text.hexadecimal (whole n)) }
+    {
+        self.half(n.upper);
+        self.half(n.lower);
+    }
+
+    // A blank, and a number.
+    fn field(&mut self, n: u64)
+        requires { self.old.at + length (text.field n) ≤ length self.old.out.now }
+        ensures same_run { self.new.out.ghost_name ≡ self.old.out.ghost_name }
+        ensures written { (self.new.at, self.new.out.now) ≡ put self.old.out.now self.old.at (text.field n) }
+    {
+        self.put(b" ");
+        self.decimal(n);
+    }
+
+    // A blank, and a number of 128 bits.
+    fn hex_field(&mut self, n: Halves)
+        requires { self.old.at + length (text.hex_field (whole n)) ≤ length self.old.out.now }
+        ensures same_run { self.new.out.ghost_name ≡ self.old.out.ghost_name }
+        ensures written { (self.new.at, self.new.out.now) ≡ put self.old.out.now self.old.at (text.hex_field (whole n)) }
+    {
+        self.put(b" ");
+        self.hexadecimal(n);
+    }
+
+    // "per row space, low, high".
+    fn row(&mut self, row: Row)
+        requires { self.old.at + length (text.row_line (seen row)) ≤ length self.old.out.now }
+        ensures same_run { self.new.out.ghost_name ≡ self.old.out.ghost_name }
+        ensures written { (self.new.at, self.new.out.now) ≡ put self.old.out.now self.old.at (text.row_line (seen row)) }
+    {
+        self.decimal(row.space);
+        self.hex_field(row.low);
+        self.hex_field(row.high);
+        self.put(b"\n");
+    }
+
+    // The first n rows of a table, a line each.
+    fn rows(&mut self, table: &[u64], n: usize)
+        requires { (n ≤ room table.now) × (self.old.at + length (text.row_lines (rows_of n table.now)) ≤ length self.old.out.now) }
+        ensures same_run { self.new.out.ghost_name ≡ self.old.out.ghost_name }
+        ensures written { (self.new.at, self.new.out.now) ≡ put self.old.out.now self.old.at (text.row_lines (rows_of n table.now)) }
+    {
+        for k in 0..n {
+            self.row(rows::get(table, k));
+        }
+    }
 }
 
 // "`ok`, rows, pairs", and a line for each of the first n rows of the table.
@@ -139,11 +155,13 @@ fn put_ok(out: &mut [u8], count: usize, pairs: usize, table: &[u64], n: usize) -
     requires { (n ≤ room table.now) × (length (text.ok_text count pairs (rows_of n table.now)) ≤ length out.old) }
     ensures { (result, out.new) ≡ put out.old 0 (text.ok_text count pairs (rows_of n table.now)) }
 {
-    let first = put_text(out, 0, b"ok");
-    let second = put_field(out, first, count as u64);
-    let end = put_field(out, second, pairs as u64);
-    let next = put_text(out, end, b"\n");
-    put_rows(out, next, table, n)
+    let mut text = Text { out, at: 0 };
+    text.put(b"ok");
+    text.field(count as u64);
+    text.field(pairs as u64);
+    text.put(b"\n");
+    text.rows(table, n);
+    text.at
 }
 
 // "`no`, number, certificate, extension, place, space, value".
@@ -151,13 +169,14 @@ fn put_no(out: &mut [u8], fault: Refused) -> usize
     requires { length (text.no_text fault) ≤ length out.old }
     ensures { (result, out.new) ≡ put out.old 0 (text.no_text fault) }
 {
-    let refusal = fault.refusal;
-    let first = put_text(out, 0, b"no");
-    let certificate = put_field(out, first, refusal::number(refusal));
-    let extension = put_field(out, certificate, fault.certificate);
-    let place = put_field(out, extension, fault.extension);
-    let space = put_field(out, place, fault.place as u64);
-    let value = put_field(out, space, fault.space);
-    let end = put_hex_field(out, value, fault.value);
-    put_text(out, end, b"\n")
+    let mut text = Text { out, at: 0 };
+    text.put(b"no");
+    text.field(refusal::number(fault.refusal));
+    text.field(fault.certificate);
+    text.field(fault.extension);
+    text.field(fault.place as u64);
+    text.field(fault.space);
+    text.hex_field(fault.value);
+    text.put(b"\n");
+    text.at
 }

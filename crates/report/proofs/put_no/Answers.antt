@@ -3,6 +3,7 @@ use mathlib.Core.Path.{◌≡◌, ap}
 use mathlib.Core.List.{List, [], ◌∷◌}
 use Prim.Native.Nat.{ℕ, ◌≤◌}
 use lib.ListN.{length}
+use borrow.Author.Rules.{rules}
 use Rattle.number.specs.Halves.{whole}
 use Rattle.number.specs.Refusal.{number_of}
 use Rattle.values.specs.declared.readings.Refused.{Refused}
@@ -63,35 +64,36 @@ module _ (out : List ℕ) (f : Refused) (fits : length (no_text f) ≤ length ou
               seven : {n₇ : ℕ} {out₇ : List ℕ} → ◌≡◌ {A = ℕ × List ℕ} (n₇, out₇) (put out₆ n₆ (hex_field (whole f.value))) → Wrote 6 n₇ out₇
               seven i = onward six i
 
-pub put_text-first-requires : goal.put_text-first-requires
-put_text-first-requires c = fit c.args.out.now c.args.fault c.requires
+pub put-requires : goal.put-requires
+put-requires c = fit c.args.out.now c.args.fault c.requires
 
-pub put_field-certificate-requires : goal.put_field-certificate-requires
-put_field-certificate-requires c =
-    fits_same c.put_text-first.new.out c.put_text-first.result (field c.number.result) (ap field c.number.ensures) (next_fits (one c.args.out.now c.args.fault c.requires c.put_text-first.ensures))
+pub field-requires : goal.field-requires
+field-requires c =
+    fits_same c.put.new.self.out.now c.put.new.self.at (field c.number.result) (ap field c.number.ensures) (next_fits (one c.args.out.now c.args.fault c.requires c.put.ensures.written))
 
-pub put_field-extension-requires : goal.put_field-extension-requires
-put_field-extension-requires c = next_fits (two c.args.out.now c.args.fault c.requires c.put_text-first.ensures c.number.ensures c.put_field-certificate.ensures)
+pub field-requires-2 : goal.field-requires-2
+field-requires-2 c = next_fits (two c.args.out.now c.args.fault c.requires c.put.ensures.written c.number.ensures c.field.ensures.written)
 
-pub put_field-place-requires : goal.put_field-place-requires
-put_field-place-requires c = next_fits (three c.args.out.now c.args.fault c.requires c.put_text-first.ensures c.number.ensures c.put_field-certificate.ensures c.put_field-extension.ensures)
+pub field-requires-3 : goal.field-requires-3
+field-requires-3 c = next_fits (three c.args.out.now c.args.fault c.requires c.put.ensures.written c.number.ensures c.field.ensures.written c.field-2.ensures.written)
 
-pub put_field-space-requires : goal.put_field-space-requires
-put_field-space-requires c = next_fits (four c.args.out.now c.args.fault c.requires c.put_text-first.ensures c.number.ensures c.put_field-certificate.ensures c.put_field-extension.ensures c.put_field-place.ensures)
+pub field-requires-4 : goal.field-requires-4
+field-requires-4 c = next_fits (four c.args.out.now c.args.fault c.requires c.put.ensures.written c.number.ensures c.field.ensures.written c.field-2.ensures.written c.field-3.ensures.written)
 
-pub put_field-value-requires : goal.put_field-value-requires
-put_field-value-requires c = next_fits (five c.args.out.now c.args.fault c.requires c.put_text-first.ensures c.number.ensures c.put_field-certificate.ensures c.put_field-extension.ensures c.put_field-place.ensures c.put_field-space.ensures)
+pub field-requires-5 : goal.field-requires-5
+field-requires-5 c = next_fits (five c.args.out.now c.args.fault c.requires c.put.ensures.written c.number.ensures c.field.ensures.written c.field-2.ensures.written c.field-3.ensures.written c.field-4.ensures.written)
 
-pub put_hex_field-end-requires : goal.put_hex_field-end-requires
-put_hex_field-end-requires c = next_fits (six c.args.out.now c.args.fault c.requires c.put_text-first.ensures c.number.ensures c.put_field-certificate.ensures c.put_field-extension.ensures c.put_field-place.ensures c.put_field-space.ensures c.put_field-value.ensures)
+pub hex_field-requires : goal.hex_field-requires
+hex_field-requires c = next_fits (six c.args.out.now c.args.fault c.requires c.put.ensures.written c.number.ensures c.field.ensures.written c.field-2.ensures.written c.field-3.ensures.written c.field-4.ensures.written c.field-5.ensures.written)
 
-pub put_text-requires : goal.put_text-requires
-put_text-requires c = next_fits (seven c.args.out.now c.args.fault c.requires c.put_text-first.ensures c.number.ensures c.put_field-certificate.ensures c.put_field-extension.ensures c.put_field-place.ensures c.put_field-space.ensures c.put_field-value.ensures c.put_hex_field-end.ensures)
+pub put-requires-2 : goal.put-requires-2
+put-requires-2 c = next_fits (seven c.args.out.now c.args.fault c.requires c.put.ensures.written c.number.ensures c.field.ensures.written c.field-2.ensures.written c.field-3.ensures.written c.field-4.ensures.written c.field-5.ensures.written c.hex_field.ensures.written)
 
 pub returns : goal.returns
 unfolding no_text
 returns c =
-    end
+    let e = end
     (onward
-    (seven c.args.out.now c.args.fault c.requires c.put_text-first.ensures c.number.ensures c.put_field-certificate.ensures c.put_field-extension.ensures c.put_field-place.ensures c.put_field-space.ensures c.put_field-value.ensures c.put_hex_field-end.ensures)
-    c.put_text.ensures)
+    (seven c.args.out.now c.args.fault c.requires c.put.ensures.written c.number.ensures c.field.ensures.written c.field-2.ensures.written c.field-3.ensures.written c.field-4.ensures.written c.field-5.ensures.written c.hex_field.ensures.written)
+    c.put-2.ensures.written) in
+    search rules

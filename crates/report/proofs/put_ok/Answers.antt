@@ -3,6 +3,7 @@ use mathlib.Core.Path.{◌≡◌}
 use mathlib.Core.List.{List, [], ◌∷◌}
 use Prim.Native.Nat.{ℕ, ◌≤◌}
 use lib.ListN.{length}
+use borrow.Author.Rules.{rules}
 use Rattle.table.specs.Rows.{Row, rows_of}
 use Rattle.report.specs.Text.{newline, field, row_lines, ok_text}
 use Rattle.report.specs.Reports.{put}
@@ -46,26 +47,27 @@ module _ (out : List ℕ) (count pairs : ℕ) (rows : List Row) (fits : length (
         four : {n₄ : ℕ} {out₄ : List ℕ} → ◌≡◌ {A = ℕ × List ℕ} (n₄, out₄) (put out₃ n₃ (newline ∷ [])) → Wrote 3 n₄ out₄
         four h = onward three h
 
-pub put_text-first-requires : goal.put_text-first-requires
-put_text-first-requires c = fit c.args.out.now c.args.count c.args.pairs (rows_of c.args.n c.args.table.now) c.requires.1
+pub put-requires : goal.put-requires
+put-requires c = fit c.args.out.now c.args.count c.args.pairs (rows_of c.args.n c.args.table.now) c.requires.1
 
-pub put_field-second-requires : goal.put_field-second-requires
-put_field-second-requires c = next_fits (one c.args.out.now c.args.count c.args.pairs (rows_of c.args.n c.args.table.now) c.requires.1 c.put_text-first.ensures)
+pub field-requires : goal.field-requires
+field-requires c = next_fits (one c.args.out.now c.args.count c.args.pairs (rows_of c.args.n c.args.table.now) c.requires.1 c.put.ensures.written)
 
-pub put_field-end-requires : goal.put_field-end-requires
-put_field-end-requires c = next_fits (two c.args.out.now c.args.count c.args.pairs (rows_of c.args.n c.args.table.now) c.requires.1 c.put_text-first.ensures c.put_field-second.ensures)
+pub field-requires-2 : goal.field-requires-2
+field-requires-2 c = next_fits (two c.args.out.now c.args.count c.args.pairs (rows_of c.args.n c.args.table.now) c.requires.1 c.put.ensures.written c.field.ensures.written)
 
-pub put_text-next-requires : goal.put_text-next-requires
-put_text-next-requires c = next_fits (three c.args.out.now c.args.count c.args.pairs (rows_of c.args.n c.args.table.now) c.requires.1 c.put_text-first.ensures c.put_field-second.ensures c.put_field-end.ensures)
+pub put-requires-2 : goal.put-requires-2
+put-requires-2 c = next_fits (three c.args.out.now c.args.count c.args.pairs (rows_of c.args.n c.args.table.now) c.requires.1 c.put.ensures.written c.field.ensures.written c.field-2.ensures.written)
 
-pub put_rows-requires : goal.put_rows-requires
-put_rows-requires c =
-    (c.requires.0, next_fits (four c.args.out.now c.args.count c.args.pairs (rows_of c.args.n c.args.table.now) c.requires.1 c.put_text-first.ensures c.put_field-second.ensures c.put_field-end.ensures c.put_text-next.ensures))
+pub rows-requires : goal.rows-requires
+rows-requires c =
+    (c.requires.0, next_fits (four c.args.out.now c.args.count c.args.pairs (rows_of c.args.n c.args.table.now) c.requires.1 c.put.ensures.written c.field.ensures.written c.field-2.ensures.written c.put-2.ensures.written))
 
 pub returns : goal.returns
 unfolding ok_text
 returns c =
-    end
+    let e = end
     (onward
-    (four c.args.out.now c.args.count c.args.pairs (rows_of c.args.n c.args.table.now) c.requires.1 c.put_text-first.ensures c.put_field-second.ensures c.put_field-end.ensures c.put_text-next.ensures)
-    c.put_rows.ensures)
+    (four c.args.out.now c.args.count c.args.pairs (rows_of c.args.n c.args.table.now) c.requires.1 c.put.ensures.written c.field.ensures.written c.field-2.ensures.written c.put-2.ensures.written)
+    c.rows.ensures.written) in
+    search rules

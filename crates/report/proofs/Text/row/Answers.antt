@@ -1,4 +1,4 @@
--- `report::put_row` meets its contract. Assumes nothing.
+-- `report::Text::row` meets its contract. Assumes nothing.
 use mathlib.Core.Path.{◌≡◌}
 use mathlib.Core.List.{List, [], ◌∷◌}
 use Prim.Native.Nat.{ℕ, ◌+◌, ◌≤◌}
@@ -9,7 +9,7 @@ use Rattle.table.specs.declared.rows.Row.{Row}
 use Rattle.report.specs.Text.{newline, decimal, hex_field, row_line}
 use Rattle.report.specs.Reports.{put}
 use Rattle.report.proofs.Putting.{Reached, begin, first_fits, next_fits, onward, end}
-use Rattle.report.proofs.put_row.Goals as goal
+use Rattle.report.proofs.Text.row.Goals as goal
 
 -- what follows the space in a row's line
 abbrev after : Row → List (List ℕ)
@@ -35,19 +35,19 @@ module _ (out : List ℕ) (at : ℕ) (r : Row) (fits : at + length (row_line (se
       three : {n₃ : ℕ} {out₃ : List ℕ} → ◌≡◌ {A = ℕ × List ℕ} (n₃, out₃) (put out₂ n₂ (hex_field (whole r.high))) → Wrote 2 n₃ out₃
       three g = onward two g
 
-pub put_decimal-low-requires : goal.put_decimal-low-requires
+pub decimal-requires : goal.decimal-requires
 unfolding row_line
-put_decimal-low-requires c = first_fits c.args.out.now c.args.at (decimal c.args.row.space) (after c.args.row) c.requires
+decimal-requires c = first_fits c.args.self.now.out.now c.args.self.now.at (decimal c.args.row.space) (after c.args.row) c.requires
 
-pub put_hex_field-high-requires : goal.put_hex_field-high-requires
-put_hex_field-high-requires c = next_fits (one c.args.out.now c.args.at c.args.row c.requires c.put_decimal-low.ensures)
+pub hex_field-requires : goal.hex_field-requires
+hex_field-requires c = next_fits (one c.args.self.now.out.now c.args.self.now.at c.args.row c.requires c.decimal.ensures.written)
 
-pub put_hex_field-end-requires : goal.put_hex_field-end-requires
-put_hex_field-end-requires c = next_fits (two c.args.out.now c.args.at c.args.row c.requires c.put_decimal-low.ensures c.put_hex_field-high.ensures)
+pub hex_field-requires-2 : goal.hex_field-requires-2
+hex_field-requires-2 c = next_fits (two c.args.self.now.out.now c.args.self.now.at c.args.row c.requires c.decimal.ensures.written c.hex_field.ensures.written)
 
-pub put_text-requires : goal.put_text-requires
-put_text-requires c = next_fits (three c.args.out.now c.args.at c.args.row c.requires c.put_decimal-low.ensures c.put_hex_field-high.ensures c.put_hex_field-end.ensures)
+pub put-requires : goal.put-requires
+put-requires c = next_fits (three c.args.self.now.out.now c.args.self.now.at c.args.row c.requires c.decimal.ensures.written c.hex_field.ensures.written c.hex_field-2.ensures.written)
 
-pub returns : goal.returns
+pub returns-clause-written : goal.returns-clause-written
 unfolding row_line
-returns c = end (onward (three c.args.out.now c.args.at c.args.row c.requires c.put_decimal-low.ensures c.put_hex_field-high.ensures c.put_hex_field-end.ensures) c.put_text.ensures)
+returns-clause-written c = end (onward (three c.args.self.now.out.now c.args.self.now.at c.args.row c.requires c.decimal.ensures.written c.hex_field.ensures.written c.hex_field-2.ensures.written) c.put.ensures.written)
