@@ -1,5 +1,4 @@
 -- Characters written one after another. Theorems. Assumes nothing.
---     put_is       what was written at a place, and the place after it
 --     put_same, fits_same, from_0      the same characters under another name, and at the start of a run
 --     Along        some parts of a text are written, and there is room for the others.     begin, onward, end       the first part, one more, and all of them
 --     Reached      the first k parts are written.      first_fits, next_fits       there is room for the first part, and for the next
@@ -15,10 +14,6 @@ use Rattle.report.specs.Reports.{put}
 -- a place, and the run
 abbrev Placed : Type 0
 Placed = ℕ × List ℕ
-
--- what was written, and the place after it
-pub put_is : {left : List ℕ} (out : List ℕ) (at : ℕ) (s : List ℕ) → left ≡ written out at s → ◌≡◌ {A = Placed} (at + length s, left) (put out at s)
-put_is {left} out at s e = rw e
 
 -- the same characters under another name
 pub put_same : {s : List ℕ} {z : Placed} (out : List ℕ) (at : ℕ) (u : List ℕ) → s ≡ u → z ≡ put out at s → z ≡ put out at u

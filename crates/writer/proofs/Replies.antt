@@ -9,7 +9,7 @@ use native.Mathlib.Omega.{arith}
 use lib.ListN.{length}
 use lib.Dec.{eqb}
 use borrow.Author.Tests.{lt-ltb, le-ltb, ne_eqb}
-use Rattle.std.specs.Prelude.{Ok, Err}
+use Rattle.std.specs.Prelude.{Ok}
 use Rattle.number.specs.Tests.{pick}
 use Rattle.number.specs.declared.refusal.Refusal.TheVariants as refusal
 use Rattle.table.specs.Spaces.{mixed_kind, ip_kind}
@@ -25,7 +25,7 @@ use Rattle.values.specs.Limits.{as_extension}
 use Rattle.values.specs.Choices.{Choice}
 use Rattle.values.specs.Encode.{grouped, family_octets, member_octets, group_octets, encode}
 use Rattle.writer.specs.Writer.{Writing, families_most, refused_as, put, element_size, rowless, write}
-use Rattle.writer.specs.Families.{Table, Upto, families}
+use Rattle.writer.specs.Families.{Upto, families}
 
 -- families by the kind
 module _ (kind : ℕ) where
@@ -59,10 +59,6 @@ module _ (kind : ℕ) (t out : List ℕ) where
     pub reply_none : (r : Writing) → b ≡ false → r ≡ refused_as refusal.NotATable 0 → (r, out) ≡ write kind t out
     unfolding write
     reply_none r e h = rw (ne_eqb kind mixed_kind n, sym p ∙ e, h)
-
-    -- a table
-    pub reply_table : b ≡ true → Table kind t
-    reply_table e = record { one = n; table = sym p ∙ e }
 
     module _ (e : b ≡ true) {d : Bool} (q : d ≡ rowless kind (room t)) where
       -- no row
