@@ -1,6 +1,5 @@
 // The answers as lines.
 use number::halves::Halves;
-use number::refusal;
 use table::rows;
 use values::readings::Reading;
 
@@ -34,16 +33,16 @@ pub fn numbers(rt: &impl Print, table: &[u64], count: usize) {
 // A reader's reply: 'ok ROWS n,n,..', or 'no NUMBER CERTIFICATE EXTENSION PLACE SPACE VALUE'.
 pub fn reading(rt: &impl Print, reading: Reading, table: &[u64]) {
     match reading {
-        Reading::Rows(n) => {
+        Ok(n) => {
             let _ = rt.write_all(b"ok");
             field(rt, n as u64);
             numbers(rt, table, n);
         }
-        Reading::Refused(fault) => {
+        Err(fault) => {
             let refusal = fault.refusal;
             let value = fault.value;
             let _ = rt.write_all(b"no");
-            field(rt, refusal::number(refusal));
+            field(rt, u64::from(refusal));
             field(rt, fault.certificate);
             field(rt, fault.extension);
             field(rt, fault.place as u64);

@@ -1,21 +1,20 @@
 // 'part WHICH START END number EXTENSION PLACE rows n,n,..'.
 use crate::answers;
-use number::refusal;
 use values::readings::Reading;
 use values::{limits, parts, readings};
 
 // Whether the octets at fault are the AS value's.
 fn of_ids(reading: Reading) -> bool {
     match reading {
-        Reading::Rows(_) => false,
-        Reading::Refused(fault) => fault.extension == limits::AS_EXTENSION,
+        Ok(_) => false,
+        Err(fault) => fault.extension == limits::AS_EXTENSION,
     }
 }
 
 fn has_part(reading: Reading) -> bool {
     match reading {
-        Reading::Rows(_) => false,
-        Reading::Refused(fault) => {
+        Ok(_) => false,
+        Err(fault) => {
             let refusal = fault.refusal;
             parts::has_octets(refusal)
         }
@@ -48,14 +47,14 @@ fn part<'a>(rt: &impl Print, ip: &'a [u8], ids: &'a [u8], table: &mut [u64], rea
 // The number, the extension and the place of the refusal, or zeros; then the rows.
 fn reply(rt: &impl Print, reading: Reading, table: &[u64]) {
     match reading {
-        Reading::Rows(n) => {
+        Ok(n) => {
             let _ = rt.write_all(b" 0 0 0");
             answers::field(rt, n as u64);
             answers::numbers(rt, table, n);
         }
-        Reading::Refused(fault) => {
+        Err(fault) => {
             let refusal = fault.refusal;
-            answers::field(rt, refusal::number(refusal));
+            answers::field(rt, u64::from(refusal));
             answers::field(rt, fault.extension);
             answers::field(rt, fault.place as u64);
             let _ = rt.write_all(b" 0 -");

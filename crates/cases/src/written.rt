@@ -14,7 +14,7 @@ fn reply(rt: &impl Print, writing: Writing, out: &[u8]) {
             }
             let _ = rt.write_all(b"\n");
         }
-        Err(fault) => answers::reading(rt, Reading::Refused(fault), &[]),
+        Err(fault) => answers::reading(rt, Err(fault), &[]),
     }
 }
 

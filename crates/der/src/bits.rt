@@ -107,7 +107,7 @@ pub fn read(width: Width, contents: &[u8]) -> Option<BitString>
         return None;
     }
     let count = all - unused as u32;
-    if halves::bits(width) < count {
+    if width.bits() < count {
         return None;
     }
     if ends_in_zeros(octets, unused) {

@@ -11,8 +11,6 @@ use Rattle.values.specs.Readings.{read_ip, read_as, read_both}
 use Rattle.values.specs.Papers.{paper}
 use Rattle.values.specs.Parted.{has_octets}
 use Rattle.values.specs.declared.readings.Refused.{Refused}
-use Rattle.values.specs.declared.readings.Reading.{Reading}
-use Rattle.values.specs.declared.readings.Reading.TheVariants as reading
 use Rattle.writer.specs.Writer.{Writing, write}
 use Rattle.writer.specs.Papers as writer
 use Rattle.path.specs.Papers as replies
@@ -20,6 +18,8 @@ use Rattle.path.specs.Paths as path
 use Rattle.face.specs.Face.{nine, part_of, parted, told, too_short, given, read_ip_face, read_as_face, write_face, path_face, fault_face, numbers}
 use Rattle.face.specs.declared.Nine.{Nine}
 use Rattle.path.specs.Replies.{Reply}
+use Rattle.values.specs.Readings.{Reading}
+use Rattle.std.specs.Prelude.{Result, Ok, Err}
 
 -- nine stores at the start of a run
 pub put_nine : (n : Nine) (l : List ℕ) → nine ≤ length l
@@ -37,10 +37,10 @@ module _ (ip ids : ℕ) (x : Reading) (n r : Nine) (h : numbers n ≡ paper x) w
   part_by p e q = e ∙ ap (λ (l : List ℕ). parted l p) h ∙ ap (λ (q : ℕ × ℕ × ℕ). parted (paper x) q) q
 
   -- both values were read
-  pub part_read : (k : ℕ) → x ≡ reading.Rows k → numbers r ≡ parted (numbers n) (ip_extension, 0, 0) → numbers r ≡ parted (paper x) (part_of ip ids x)
+  pub part_read : (k : ℕ) → x ≡ Ok k → numbers r ≡ parted (numbers n) (ip_extension, 0, 0) → numbers r ≡ parted (paper x) (part_of ip ids x)
   part_read k e q = part_by (ip_extension, 0, 0) q (rw e)
 
-  module _ (f : Refused) (b : Bool) (e : x ≡ reading.Refused f) (g : b ≡ has_octets f.refusal) where
+  module _ (f : Refused) (b : Bool) (e : x ≡ Err f) (g : b ≡ has_octets f.refusal) where
     -- a refusal that has none
     pub part_none : b ≡ false → numbers r ≡ parted (numbers n) (ip_extension, 0, 0) → numbers r ≡ parted (paper x) (part_of ip ids x)
     part_none t q = part_by (ip_extension, 0, 0) q (rw (e, ← g, t))

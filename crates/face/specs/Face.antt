@@ -7,12 +7,13 @@ use Rattle.values.specs.Limits.{ip_extension, as_extension}
 use Rattle.values.specs.Readings.{read_ip, read_as, read_both}
 use Rattle.values.specs.Papers.{paper}
 use Rattle.values.specs.Parted.{chosen}
-use Rattle.values.specs.declared.readings.Reading.{Reading}
 use Rattle.writer.specs.Writer.{write}
 use Rattle.writer.specs.Papers as writer
 use Rattle.path.specs.Papers as path
 use Rattle.path.specs.Paths.{check}
 use Rattle.face.specs.declared.Nine.{Nine}
+use Rattle.values.specs.Readings.{Reading}
+use Rattle.std.specs.Prelude.{Result, Ok, Err}
 
 -- how many numbers a reply has
 abbrev pub nine : ℕ

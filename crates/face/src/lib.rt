@@ -8,7 +8,6 @@ ghost use Rattle.path.specs.Papers as path;
 ghost use Rattle.writer.specs.Papers as writer;
 ghost use Rattle.face.specs.Face as spec;
 
-use number::refusal;
 use number::refusal::Refusal;
 use path::paths;
 use path::replies::Reply;
@@ -57,7 +56,7 @@ fn refused(fault: Refused) -> Nine
     let refusal = fault.refusal;
     let value = fault.value;
     Nine {
-        number: refusal::number(refusal),
+        number: u64::from(refusal),
         certificate: fault.certificate,
         extension: fault.extension,
         place: fault.place as u64,
@@ -90,8 +89,8 @@ fn of_reading(reading: Reading) -> Nine
     ensures { spec.numbers result ≡ values.paper reading }
 {
     match reading {
-        Reading::Rows(n) => accepted(n, 0),
-        Reading::Refused(fault) => refused(fault),
+        Ok(n) => accepted(n, 0),
+        Err(fault) => refused(fault),
     }
 }
 
@@ -136,8 +135,8 @@ fn of_fault(reading: Reading, ip: usize, ids: usize) -> Nine
 {
     let nine = of_reading(reading);
     match reading {
-        Reading::Rows(_) => with_part(nine, limits::IP_EXTENSION, 0, 0),
-        Reading::Refused(fault) => {
+        Ok(_) => with_part(nine, limits::IP_EXTENSION, 0, 0),
+        Err(fault) => {
             let refusal = fault.refusal;
             if parts::has_octets(refusal) {
                 if fault.extension == limits::IP_EXTENSION {
@@ -154,7 +153,7 @@ fn of_fault(reading: Reading, ip: usize, ids: usize) -> Nine
 fn short() -> u64
     ensures { result ≡ spec.too_short }
 {
-    refusal::number(Refusal::TableShort)
+    u64::from(Refusal::TableShort)
 }
 
 // Reads an IPAddrBlocks value into the table. Returns the number of the refusal, or 0.

@@ -23,14 +23,14 @@ use Rattle.values.specs.Limits.{ip_extension, as_extension, max_octets}
 use Rattle.values.specs.Faults.{Fault, at}
 use Rattle.values.specs.Tables.{ip_rows, as_rows}
 use Rattle.values.specs.Readings.{refused_with, settled, step_of, step_ip, step_as, on_as, step_both}
-use Rattle.values.specs.declared.readings.Reading.{Reading}
-use Rattle.values.specs.declared.readings.Reading.TheVariants as reading
 use Rattle.values.specs.declared.readings.Refused.{Refused}
 use Rattle.values.proofs.laws.Exact.{ip_exact, as_exact_after}
 use Rattle.path.specs.Replies.{fault_at, named, Reply}
 use Rattle.path.specs.Certificate.{Step, onward, blamed, value_step, ip_step, as_step, read_step, lacked, after_presence, after_reading, certificate, Left, seen_above, refused, left, checked, zeroed}
 use Rattle.path.specs.declared.certificates.Above as code
 use Rattle.path.proofs.Checking.{read_again}
+use Rattle.values.specs.Readings.{Reading}
+use Rattle.std.specs.Prelude.{Result, Ok, Err}
 
 -- ONE VALUE
 
@@ -39,12 +39,12 @@ abbrev Read : Type 0
 Read = Reading × List ℕ
 
 abbrev coded : ℕ → ℕ → Contents (List Row) Fault → List ℕ → List ℕ → Read
-coded extension n rows v t = pick (eqb (length v) 0) (reading.Rows n, t) (step_of extension n rows v t)
+coded extension n rows v t = pick (eqb (length v) 0) (Ok n, t) (step_of extension n rows v t)
 
 -- the definition's step, and the code's
 abbrev One : ℕ → ℕ → List ℕ → Step (List Row) → Read → Type 0
-One k n t (is rows) l = (l.0 ≡ reading.Rows (n + length rows)) × (l.1 ≡ with_rows t n rows)
-One k n t (isnt f) l = (g : Refused) × (l.0 ≡ reading.Refused g) × (named k g ≡ f) × (l.1 ≡ cleared table_numbers t)
+One k n t (is rows) l = (l.0 ≡ Ok (n + length rows)) × (l.1 ≡ with_rows t n rows)
+One k n t (isnt f) l = (g : Refused) × (l.0 ≡ Err g) × (named k g ≡ f) × (l.1 ≡ cleared table_numbers t)
 
 -- they agree
 one : (k extension n : ℕ) (rows : Contents (List Row) Fault) (v t : List ℕ) → table_numbers ≤ length t → One k n t (value_step k extension v rows) (coded extension n rows v t)
@@ -53,8 +53,8 @@ one k extension n rows v t long = rw (le-ltb (length t) table_numbers long) (go 
   where
     go : (b c : Bool) (rows : Contents (List Row) Fault)
         → One k n t (pick (pick b false true) (pick c (isnt (fault_at refusal.ValueSize k extension 0 0)) (blamed k extension rows)) (is []))
-        (pick b (reading.Rows n, t) (pick c (refused_with extension (at 0 refusal.ValueSize) t) (settled extension n rows t)))
-    go true c rows = (ap reading.Rows (sym (add-zero n)), refl)
+        (pick b (Ok n, t) (pick c (refused_with extension (at 0 refusal.ValueSize) t) (settled extension n rows t)))
+    go true c rows = (ap Ok (sym (add-zero n)), refl)
     go false true rows = (_, refl, refl, refl)
     go false false (is rs) = (refl, refl)
     go false false (isnt f) = (_, refl, refl, refl)
@@ -91,8 +91,8 @@ few_as k n v rows o h e = go (value_was k as_extension v (as_rows n v) rows e)
 
 -- the definition's reading, and the code's
 abbrev Bridged : ℕ → List ℕ → Step (List Row) → Read → Type 0
-Bridged k t (is rows) l = (l.0 ≡ reading.Rows (length rows)) × (l.1 ≡ with_rows t 0 rows) × (length rows ≤ max_rows)
-Bridged k t (isnt f) l = (g : Refused) × (l.0 ≡ reading.Refused g) × (named k g ≡ f) × (cleared table_numbers l.1 ≡ cleared table_numbers t)
+Bridged k t (is rows) l = (l.0 ≡ Ok (length rows)) × (l.1 ≡ with_rows t 0 rows) × (length rows ≤ max_rows)
+Bridged k t (isnt f) l = (g : Refused) × (l.0 ≡ Err g) × (named k g ≡ f) × (cleared table_numbers l.1 ≡ cleared table_numbers t)
 
 module _ (k : ℕ) (ip ids t : List ℕ) (long : table_numbers ≤ length t) (oip : Octets ip) (oids : Octets ids) where
   -- the AS value after the IP rows
@@ -101,7 +101,7 @@ module _ (k : ℕ) (ip ids t : List ℕ) (long : table_numbers ≤ length t) (oi
   second rows h (is more) l e (p, q) =
       let c = length-append rows more in
       let a : with_rows t 0 (rows ++ more) ≡ with_rows (with_rows t 0 rows) (length rows) more = rw zero-add at (with_rows-append t 0 rows more) in
-      (p ∙ ap reading.Rows (sym c), q ∙ sym a, omega (arith, few_as k (length rows) ids more oids h e))
+      (p ∙ ap Ok (sym c), q ∙ sym a, omega (arith, few_as k (length rows) ids more oids h e))
   second rows h (isnt f) l e (g, p, q, r) = (g, p, q, ap (λ (u : List ℕ). cleared table_numbers u) r ∙ cleared_twice table_numbers (with_rows t 0 rows) ∙ cleared_rows t 0 rows (omega arith))
 
   -- the IP value
@@ -109,7 +109,7 @@ module _ (k : ℕ) (ip ids t : List ℕ) (long : table_numbers ≤ length t) (oi
   unfolding step_as as_step
   first (is rows) l e (p, q) =
       let h = few_ip k ip rows oip e in
-      let z : l.0 ≡ reading.Rows (length rows) = p ∙ ap reading.Rows (zero-add (length rows)) in
+      let z : l.0 ≡ Ok (length rows) = p ∙ ap Ok (zero-add (length rows)) in
       let b : table_numbers ≤ length (with_rows t 0 rows) = rw length-with_rows long in
       rw (z, q) (second rows h (as_step k (length rows) ids) (coded as_extension (length rows) (as_rows (length rows) ids) ids (with_rows t 0 rows)) refl (one k as_extension (length rows) (as_rows (length rows) ids) ids (with_rows t 0 rows) b))
   first (isnt f) l e (g, p, q, r) = rw p (g, refl, q, ap (λ (u : List ℕ). cleared table_numbers u) r ∙ cleared_twice table_numbers t)
@@ -143,7 +143,7 @@ module _ (a : code.Above) (issuer ip ids own : List ℕ) where
       told = rw (← e) at (bridge a.certificates ip ids own long oip oids)
 
       -- a value is refused
-      pub certificate_refused : (g : Refused) → x ≡ reading.Refused g → (f : Refused) → f ≡ named a.certificates g → refused f t ≡ answer
+      pub certificate_refused : (g : Refused) → x ≡ Err g → (f : Refused) → f ≡ named a.certificates g → refused f t ≡ answer
       unfolding certificate
       certificate_refused g h f p = go (read_step a.certificates ip ids) told
         where
@@ -154,7 +154,7 @@ module _ (a : code.Above) (issuer ip ids own : List ℕ) where
               ap₂ (λ (w : Refused) (l : List ℕ). (Err w, l)) y c
 
       -- both are read: so many rows, and they are in the table
-      module _ (n : ℕ) (h : x ≡ reading.Rows n) where
+      module _ (n : ℕ) (h : x ≡ Ok n) where
         -- then the steps after the reading decide
         both_read : (l : Left) → ((rows : List Row) → n ≡ length rows → t ≡ with_rows own 0 rows → length rows ≤ max_rows → l ≡ left (after_reading (seen_above a issuer) ip ids rows) own) → l ≡ answer
         unfolding certificate
@@ -179,7 +179,7 @@ module _ (a : code.Above) (issuer ip ids own : List ℕ) where
               rw (← d, z) (q ∙ rw (i, j, rows_written own rows b) (read_again (seen_above a issuer) rows own m)))
 
       -- the rows that were read are not too many
-      pub read_few : (n : ℕ) → x ≡ reading.Rows n → n ≤ max_rows
+      pub read_few : (n : ℕ) → x ≡ Ok n → n ≤ max_rows
       read_few n h = go (read_step a.certificates ip ids) told
         where
           go : (s : Step (List Row)) → Bridged a.certificates own s (x, t) → n ≤ max_rows

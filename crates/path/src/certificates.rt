@@ -91,8 +91,8 @@ fn steps(ip: &[u8], ids: &[u8], own: &mut [u64], issuer: &[u64], above: Above) -
     ensures { spec.zeroed result own.new ≡ spec.left (spec.certificate (spec.seen_above above issuer.now) ip.now ids.now) own.old }
 {
     let n = match readings::step_both(ip, ids, own) {
-        Reading::Rows(n) => n,
-        Reading::Refused(fault) => return Err(replies::named(fault, above.certificates)),
+        Ok(n) => n,
+        Err(fault) => return Err(replies::named(fault, above.certificates)),
     };
     if let Some(extension) = lacked(ip, ids, above) {
         return Err(readings::naming(Refusal::IssuerLacks, above.certificates, extension, 0));

@@ -42,20 +42,20 @@ fn how(own: &[u64], issuer: &[u64]) -> Meet
     let held = rows::space(issuer, 0);
     if space == held {
         let end = rows::high(issuer, 0);
-        if halves::below(end, low) {
-            if halves::below(end, rows::high(own, 0)) {
+        if end < low {
+            if end < rows::high(own, 0) {
                 return Meet::Passed;
             }
-            if halves::below(low, rows::low(issuer, 0)) {
+            if low < rows::low(issuer, 0) {
                 return Meet::Passed;
             }
             // Both, as only a row can be whose high is below its low, which no table has: document 01 asks whether it is within first.
             return Meet::Within;
         }
-        if halves::below(low, rows::low(issuer, 0)) {
+        if low < rows::low(issuer, 0) {
             return Meet::Apart(low);
         }
-        if halves::below(end, rows::high(own, 0)) {
+        if end < rows::high(own, 0) {
             return Meet::Apart(halves::next(end));
         }
         return Meet::Within;

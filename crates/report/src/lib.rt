@@ -10,7 +10,6 @@ ghost use Rattle.report.specs.Reports.{put};
 
 use der::writing;
 use number::halves::Halves;
-use number::refusal;
 use table::rows;
 use table::rows::Row;
 use values::readings::Refused;
@@ -171,7 +170,7 @@ fn put_no(out: &mut [u8], fault: Refused) -> usize
 {
     let mut text = Text { out, at: 0 };
     text.put(b"no");
-    text.field(refusal::number(fault.refusal));
+    text.field(u64::from(fault.refusal));
     text.field(fault.certificate);
     text.field(fault.extension);
     text.field(fault.place as u64);

@@ -1,11 +1,13 @@
 -- The octets at fault: which they are, where they lie, and that the place is in the value. Theorems. Assumes nothing.
-use mathlib.Core.Path.{◌≡◌, sym, ap, ◌∙◌}
+use mathlib.Core.Path.{◌≡◌, refl, sym, ap, ◌∙◌}
 use mathlib.Core.List.{List, []}
 use mathlib.Core.Bool.{Bool, true, false}
 use Prim.Native.Nat.{ℕ, ◌+◌, ◌-◌, ◌≤◌}
 use lib.ListN.{length, take, drop}
 use borrow.Author.Tests.{eq-eqb, ne_eqb}
 use Rattle.number.proofs.Picks.{rest_of}
+use Rattle.number.specs.declared.refusal.Refusal.{Refusal}
+use Rattle.number.specs.declared.refusal.Refusal.TheVariants as refusal
 use Rattle.values.specs.Limits.{ip_extension}
 use Rattle.values.specs.Inside.{BothIn}
 use Rattle.values.specs.Readings.{Left, read_both}
@@ -13,6 +15,30 @@ use Rattle.values.specs.Parted.{has_octets, fault_octets, fault_pointer}
 use Rattle.values.specs.declared.readings.Refused as refused
 use Rattle.values.specs.Readings.{Reading}
 use Rattle.std.specs.Prelude.{Ok, Err}
+
+-- every refusal but 11, 16 and 1 has octets at fault
+pub all_but : (r : Refusal) → (r ≡ refusal.RowCount → ⊥) → (r ≡ refusal.TableShort → ⊥) → (r ≡ refusal.ValueSize → ⊥) → true ≡ has_octets r
+unfolding has_octets
+all_but refusal.ValueSize a b c = absurd (c refl)
+all_but refusal.Element a b c = refl
+all_but refusal.Tag a b c = refl
+all_but refusal.Contents a b c = refl
+all_but refusal.OctetsLeft a b c = refl
+all_but refusal.Afi a b c = refl
+all_but refusal.FamilyOrder a b c = refl
+all_but refusal.EmptyList a b c = refl
+all_but refusal.RangeForm a b c = refl
+all_but refusal.ElementOrder a b c = refl
+all_but refusal.RowCount a b c = absurd (a refl)
+all_but refusal.CertificateCount a b c = refl
+all_but refusal.IssuerLacks a b c = refl
+all_but refusal.NothingToInherit a b c = refl
+all_but refusal.NotHeld a b c = refl
+all_but refusal.TableShort a b c = absurd (b refl)
+all_but refusal.Mark a b c = refl
+all_but refusal.Framing a b c = refl
+all_but refusal.NotATable a b c = refl
+all_but refusal.OutputShort a b c = refl
 
 module _ (ip ids t t' : List ℕ) (r : Reading) (e : ◌≡◌ {A = Left} (r, t') (read_both ip ids t)) where
   -- the table is the reading's

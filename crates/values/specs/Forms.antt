@@ -3,17 +3,16 @@ use Rattle.std.specs.Prelude.{ℕ, ltb, eqb}
 use Rattle.number.specs.Tests.{pick}
 use Rattle.number.specs.Kept.{kept_min, kept_max, zero_filled, one_filled}
 use Rattle.number.specs.Shape.{shape_of, is_prefix}
-use Rattle.number.specs.declared.shape.Shape.{Shape}
-use Rattle.number.specs.declared.shape.Shape.TheVariants.{Prefix, Range}
+use Rattle.std.specs.Prelude.{Option, Some, None}
 
 -- so many bits and the address that they begin, zeros after them: one of them, or min's and max's
 pub data Form : Type 0 where
   prefix : ℕ → ℕ → Form
   range : ℕ → ℕ → ℕ → ℕ → Form
 
-abbrev pub formed : ℕ → ℕ → ℕ → Shape → Form
-formed w low high (Prefix n) = prefix n low
-formed w low high Range = range (kept_min w low) low (kept_max w high) (zero_filled w (kept_max w high) high)
+abbrev pub formed : ℕ → ℕ → ℕ → (Option ℕ) → Form
+formed w low high (Some n) = prefix n low
+formed w low high None = range (kept_min w low) low (kept_max w high) (zero_filled w (kept_max w high) high)
 
 unfoldable pub form_of : ℕ → ℕ → ℕ → Form
 form_of w low high = formed w low high (shape_of w low high)

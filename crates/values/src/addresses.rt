@@ -92,7 +92,7 @@ fn range_row(space: u64, min: Start, max: Start) -> Option<Row>
     let width = spaces::width(space);
     let low = min.address;
     let high = kept::one_filled(width, max.bits, max.address);
-    if !halves::below(low, high) {
+    if !(low < high) {
         return None;
     }
     if min.bits != kept::kept_min(width, low) {

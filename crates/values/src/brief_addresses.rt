@@ -28,7 +28,7 @@ fn brief_bits(width: Width, s: &[u8]) -> Option<(Brief, usize)>
     }
     let octets = u32::from(s[1]) - 1;
     let count = 8 * octets - u32::from(s[2]);
-    if halves::bits(width) < count {
+    if width.bits() < count {
         return None;
     }
     let word = Halves {

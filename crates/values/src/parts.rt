@@ -4,24 +4,16 @@ ghost use Rattle.values.specs.Parted.{has_octets, fault_octets, fault_pointer};
 ghost use Rattle.values.specs.Readings.{read_both};
 
 use crate::{limits, readings};
-use number::refusal;
 use number::refusal::Refusal;
 
 // Returns whether a refusal has octets at fault: "the refusal is 11, 16 or 1" has none.
 pub fn has_octets(refusal: Refusal) -> bool
     ensures { result ≡ has_octets refusal }
 {
-    let number = refusal::number(refusal);
-    if number == 11 {
-        return false;
-    }
-    if number == 16 {
-        return false;
-    }
-    if number == 1 {
-        return false;
-    }
-    true
+    !matches!(
+        refusal,
+        Refusal::RowCount | Refusal::TableShort | Refusal::ValueSize
+    )
 }
 
 // Returns the octets at fault of one certificate's two values, borrowed from the value that was refused; the empty part at the start of the IP value where there are none.

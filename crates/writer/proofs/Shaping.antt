@@ -14,8 +14,6 @@ use Rattle.number.specs.Address.{address_of, number_of}
 use Rattle.number.specs.declared.halves.Halves.{Halves}
 use Rattle.number.specs.declared.halves.Width.{Width}
 use Rattle.number.specs.declared.address.Address.{Address}
-use Rattle.number.specs.declared.shape.Shape.{Shape}
-use Rattle.number.specs.declared.shape.Shape.TheVariants.{Prefix, Range}
 use Rattle.number.proofs.TwoHalves.{whole_halves}
 use Rattle.number.proofs.laws.Address.{address_is}
 use Rattle.der.specs.Tags.{BIT_STRING, SEQUENCE}
@@ -28,9 +26,10 @@ use Rattle.writer.specs.Writer.{form_seen}
 use Rattle.writer.specs.declared.Form as code
 use Rattle.writer.specs.declared.Form.TheVariants as form
 use Rattle.writer.proofs.Sizing.{bits_most}
+use Rattle.std.specs.Prelude.{Option, Some, None}
 
 -- the shape of two addresses
-module _ {s : Shape} {a b : Address} (width : Width) (low high : ℕ) (l : low ≤ high) (h : high < 2 ^ bits width)
+module _ {s : (Option ℕ)} {a b : Address} (width : Width) (low high : ℕ) (l : low ≤ high) (h : high < 2 ^ bits width)
     (p : a ≡ address_of width low) (q : b ≡ address_of width high) (e : s ≡ shape_of (bits a.width) (number_of a) (number_of b)) where
   -- is that of their numbers
   told : s ≡ shape_of (bits width) low high
@@ -39,12 +38,12 @@ module _ {s : Shape} {a b : Address} (width : Width) (low high : ℕ) (l : low �
       e ∙ rw (address_is width low a (lt_of_le_of_lt l h) p, address_is width high b h q, i)
 
   -- a prefix
-  pub shape_prefix : (n : ℕ) → s ≡ Prefix n → form.Prefix n ≡ form_seen (form_of (bits width) low high)
+  pub shape_prefix : (n : ℕ) → s ≡ Some n → form.Prefix n ≡ form_seen (form_of (bits width) low high)
   unfolding form_of
   shape_prefix n g = rw (← told, g)
 
   -- or a range
-  pub shape_range : {n m : ℕ} → s ≡ Range → n ≡ kept_min (bits width) low → m ≡ kept_max (bits width) high → form.Range n m ≡ form_seen (form_of (bits width) low high)
+  pub shape_range : {n m : ℕ} → s ≡ None → n ≡ kept_min (bits width) low → m ≡ kept_max (bits width) high → form.Range n m ≡ form_seen (form_of (bits width) low high)
   unfolding form_of
   shape_range g i j = rw (← told, g, ← i, ← j)
 
@@ -77,22 +76,22 @@ module _ {f : code.Form} (width : Width) (low high : ℕ) (l : low ≤ high) (h 
   unfolding form_of address_octets
   as_prefix_lem n g = go (shape_of (bits width) low high) refl (sym e ∙ g) (form_parts (bits width) low high l h)
     where
-      go : (s : Shape) → shape_of (bits width) low high ≡ s → form_seen (formed (bits width) low high s) ≡ form.Prefix n → Parts (bits width) (formed (bits width) low high s)
+      go : (s : (Option ℕ)) → shape_of (bits width) low high ≡ s → form_seen (formed (bits width) low high s) ≡ form.Prefix n → Parts (bits width) (formed (bits width) low high s)
           → AsPrefix width low high n
-      go (Prefix k) i q p =
+      go (Some k) i q p =
           let j : k ≡ n = cc in
           rw (← j) (record { fits = p.fits; few = bits_most width k p.fits; below = p.below; is = rw i })
-      go Range i q p = absurd (apart q)
+      go None i q p = absurd (apart q)
 
   -- of a range
   pub as_range_lem : (n m : ℕ) → f ≡ form.Range n m → AsRange width low high n m
   unfolding form_of address_octets
   as_range_lem n m g = go (shape_of (bits width) low high) refl (sym e ∙ g) (form_parts (bits width) low high l h)
     where
-      go : (s : Shape) → shape_of (bits width) low high ≡ s → form_seen (formed (bits width) low high s) ≡ form.Range n m → Parts (bits width) (formed (bits width) low high s)
+      go : (s : (Option ℕ)) → shape_of (bits width) low high ≡ s → form_seen (formed (bits width) low high s) ≡ form.Range n m → Parts (bits width) (formed (bits width) low high s)
           → AsRange width low high n m
-      go (Prefix k) i q p = absurd (apart (sym q))
-      go Range i q (p, r) =
+      go (Some k) i q p = absurd (apart (sym q))
+      go None i q (p, r) =
           let j : kept_min (bits width) low ≡ n = cc in
           let o : kept_max (bits width) high ≡ m = cc in
           rw (← j, ← o)

@@ -22,7 +22,6 @@ use der::{bits, heads, integers, tags};
 pub use families::write;
 use number::halves::{Halves, Width};
 use number::refusal::Refusal;
-use number::shape::Shape;
 use number::{address, kept, shape};
 use table::rows::Row;
 use table::spaces;
@@ -62,8 +61,8 @@ fn form_of(width: Width, low: Halves, high: Halves) -> Form
         address::from_halves(width, low),
         address::from_halves(width, high),
     ) {
-        Shape::Prefix(n) => Form::Prefix(n),
-        Shape::Range => Form::Range(kept::kept_min(width, low), kept::kept_max(width, high)),
+        Some(n) => Form::Prefix(n),
+        None => Form::Range(kept::kept_min(width, low), kept::kept_max(width, high)),
     }
 }
 

@@ -12,13 +12,12 @@ use lib.Pow.{pow-add, split, high as high_part, ones_lt, shr_lt, shl-shr}
 use borrow.Author.Tests.{lt-ltb, eq-eqb, ltb-true, eqb-true}
 use Rattle.number.specs.Kept.{kept_min, kept_max, zero_filled, one_filled}
 use Rattle.number.specs.Shape.{is_prefix, shape_of}
-use Rattle.number.specs.declared.shape.Shape.{Shape}
-use Rattle.number.specs.declared.shape.Shape.TheVariants.{Prefix, Range}
 use Rattle.number.proofs.Picks.{pick_not, pick_is}
 use Rattle.number.proofs.laws.Kept.{min_back, max_back}
 use Rattle.number.proofs.laws.Prefix.{prefix_told, told_prefix, prefix_single}
 use Rattle.der.proofs.laws.Bits.{Begins}
 use Rattle.values.specs.Forms.{Form, prefix, range, formed, form_of, span, none, ranged, span_of}
+use Rattle.std.specs.Prelude.{Option, Some, None}
 
 -- the first n bits of x, with zeros or ones after them
 module _ (w n x : ℕ) where
@@ -60,19 +59,19 @@ module _ (w n x : ℕ) (z : x % 2 ^ (w - n) ≡ 0) where
 -- by what the shape is
 module _ (w low high : ℕ) where
   -- a range is no prefix
-  range_not : shape_of w low high ≡ Range → is_prefix w low high ≡ false
+  range_not : shape_of w low high ≡ None → is_prefix w low high ≡ false
   unfolding shape_of
-  range_not e = (pick_not (is_prefix w low high) Range _ Range (λ q. let z : ◌≡◌ {A = ℕ} 0 1 = cc in omega arith) e).0
+  range_not e = (pick_not (is_prefix w low high) None _ None (λ q. let z : ◌≡◌ {A = ℕ} 0 1 = cc in omega arith) e).0
 
   -- and the other way
-  not_range : is_prefix w low high ≡ false → shape_of w low high ≡ Range
+  not_range : is_prefix w low high ≡ false → shape_of w low high ≡ None
   unfolding shape_of
   not_range e = rw e
 
   -- min is below max of a range
-  range_apart : low ≤ high → high < 2 ^ w → shape_of w low high ≡ Range → low < high
+  range_apart : low ≤ high → high < 2 ^ w → shape_of w low high ≡ None → low < high
   range_apart l b e =
-      let s : low ≡ high → ⊥ = (λ q. let p : shape_of w low high ≡ Prefix w = rw q (prefix_told w w high high (prefix_single w high b)) in let z : ◌≡◌ {A = ℕ} 0 1 = cc in omega arith) in
+      let s : low ≡ high → ⊥ = (λ q. let p : shape_of w low high ≡ Some w = rw q (prefix_told w w high high (prefix_single w high b)) in let z : ◌≡◌ {A = ℕ} 0 1 = cc in omega arith) in
       omega arith
 
 -- its low and high are those that it was made for
@@ -80,9 +79,9 @@ pub form_span : (w low high : ℕ) → low ≤ high → high < 2 ^ w → span_of
 unfolding form_of ranged
 form_span w low high l b = go (shape_of w low high) refl
   where
-    go : (s : Shape) → shape_of w low high ≡ s → span_of w (formed w low high s) ≡ span low high
-    go (Prefix n) e = let p = told_prefix w n low high (omega arith) e in ap (span low) (one_last w n low p.zeros ∙ sym p.last)
-    go Range e =
+    go : (s : (Option ℕ)) → shape_of w low high ≡ s → span_of w (formed w low high s) ≡ span low high
+    go (Some n) e = let p = told_prefix w n low high (omega arith) e in ap (span low) (one_last w n low p.zeros ∙ sym p.last)
+    go None e =
         let i = range_apart w low high l b e in
         rw (one_zero w (kept_max w high) high, max_back w high b, lt-ltb low high i, eq-eqb (kept_min w low) (kept_min w low) refl, eq-eqb (kept_max w high) (kept_max w high) refl, range_not w low high e)
 
@@ -103,9 +102,9 @@ form_parts w low high l b = go (shape_of w low high) refl
     max_fits : kept_max w high ≤ w
     max_fits = unfold kept_max in omega arith
 
-    go : (s : Shape) → shape_of w low high ≡ s → Parts w (formed w low high s)
-    go (Prefix n) e = let p = told_prefix w n low high (omega arith) e in record { fits = p.fits; below = p.below; zeros = p.zeros }
-    go Range e = (rw (min_back w low (omega arith)) at (zero_begins w (kept_min w low) low min_fits (omega arith)), zero_begins w (kept_max w high) high max_fits b)
+    go : (s : (Option ℕ)) → shape_of w low high ≡ s → Parts w (formed w low high s)
+    go (Some n) e = let p = told_prefix w n low high (omega arith) e in record { fits = p.fits; below = p.below; zeros = p.zeros }
+    go None e = (rw (min_back w low (omega arith)) at (zero_begins w (kept_min w low) low min_fits (omega arith)), zero_begins w (kept_max w high) high max_fits b)
 
 -- none is no span
 no_span : {low high : ℕ} → none ≡ span low high → ⊥
