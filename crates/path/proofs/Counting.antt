@@ -10,54 +10,50 @@ use lib.Dec.{eqb}
 use borrow.Author.Tests.{eq-eqb, ne_eqb}
 use Rattle.std.specs.Prelude.{Ok, Err}
 use Rattle.number.specs.Tests.{pick}
-use Rattle.number.proofs.Picks.{rest_of}
 use Rattle.table.specs.Sizes.{row_numbers, max_rows}
 use Rattle.table.specs.Rows.{Row, seen, in_halves, room, row_at, rows_of}
 use Rattle.table.specs.declared.rows.Row as code
 use Rattle.table.proofs.Columns.{front_alike, row_at_lem}
 use Rattle.table.proofs.laws.Rows.{length_rows_of, rows_split, all_of, rows_cut, rows_first, rows_none}
-use Rattle.path.specs.Inherit.{in_space, inherits, resolved, all, lacks, or_lacks, lacking, replaced, count_of}
+use Rattle.path.specs.Inherit.{rows_all, in_space, inherits, resolved, all, lacks, or_lacks, lacking, replaced, count_of}
 use Rattle.path.proofs.Parts.{rows_got, space_yes, space_no, lacking-append, lacking_last, resolved_last, few_replaced}
 use Rattle.path.specs.declared.inherits.Uninherited.TheVariants as uninherited
 
 -- THE ROWS OF A SPACE
 
 -- n of the first k rows are of the space
-pub record Counting (t : List ℕ) (m s k n : ℕ) : Type 0 where
+pub record Counting (t : List ℕ) (s k n : ℕ) : Type 0 where
   pub count : n ≡ length (in_space s (rows_of k t))
   pub few : n ≤ k
-  pub upto : k ≤ m
-  pub there : m ≤ room t
+  pub upto : k ≤ room t
 
-pub count_start : (t : List ℕ) (m s : ℕ) → m ≤ room t → Counting t m s 0 0
+pub count_start : (t : List ℕ) (s : ℕ) → Counting t s 0 0
 unfolding rows_of
-count_start t m s h = record { count = refl; few = omega arith; upto = omega arith; there = h }
+count_start t s = record { count = refl; few = omega arith; upto = omega arith }
 
-module _ {t : List ℕ} {m s k n : ℕ} (h : Counting t m s k n) where
-  pub count_end : m ≤ k → n ≡ length (in_space s (rows_of m t))
-  count_end p = let e : m ≡ k = omega arith in rw e h.count
+module _ {t : List ℕ} {s k n : ℕ} (h : Counting t s k n) where
+  pub count_end : room t ≤ k → n ≡ length (in_space s (rows_all t))
+  count_end p = let e : room t ≡ k = omega arith in rw e h.count
 
-  module _ (p : k < m) (x : ℕ) (e : x ≡ (row_at t k).space) where
+  module _ (p : k < room t) (x : ℕ) (e : x ≡ (row_at t k).space) where
     abbrev row : code.Row
     row = in_halves (row_at t k)
 
     -- one more is of the space, or is not
-    pub count_yes : x ≡ s → {i : ℕ} → i ≡ n + 1 → Counting t m s (k + 1) i
+    pub count_yes : x ≡ s → {i : ℕ} → i ≡ n + 1 → Counting t s (k + 1) i
     count_yes y {i} q =
         record {
           count = rw (space_yes k t row (omega arith) refl s (sym e ∙ y), length-append) (omega (arith, h.count, q));
           few = omega arith;
           upto = omega arith;
-          there = h.there;
         }
 
-    pub count_no : (x ≡ s → ⊥) → {i : ℕ} → i ≡ n → Counting t m s (k + 1) i
+    pub count_no : (x ≡ s → ⊥) → {i : ℕ} → i ≡ n → Counting t s (k + 1) i
     count_no y {i} q =
         record {
           count = rw (space_no k t row (omega arith) refl s (λ z. y (e ∙ z))) (q ∙ h.count);
           few = omega arith;
           upto = omega arith;
-          there = h.there;
         }
 
 -- WHETHER A ROW INHERITS
@@ -101,16 +97,6 @@ module _ {o : Bool} {rest : List ℕ} {size : ℕ} (h : Asking o rest size) wher
     -- it does not
     pub ask_no : (m ≡ 1 → ⊥) → {size' : ℕ} → size' ≡ size → Asking o next size'
     ask_no y q = record { same = rw (ne_eqb m 1 y) at ask_next; row = q ∙ h.row }
-
--- ONE ROW
-
-module _ (issuer : List Row) (row : code.Row) where
-  -- it inherits, or it does not
-  pub row_inherited : (n : ℕ) → row.inherit ≡ 1 → n ≡ length (in_space row.space issuer) → n ≡ length (replaced issuer (seen row))
-  row_inherited n e h = rw (eq-eqb row.inherit 1 e) h
-
-  pub row_listed : (row.inherit ≡ 1 → ⊥) → 1 ≡ length (replaced issuer (seen row))
-  row_listed e = rw (ne_eqb row.inherit 1 e)
 
 -- ALL ROWS
 
@@ -169,6 +155,6 @@ module _ {issuer : List Row} {t : List ℕ} {n k total : ℕ} (h : Tallying issu
         }
 
 -- the count with one row more fits
-pub tally_fits : {t : List ℕ} (source : List ℕ) (m : ℕ) {n k total more : ℕ} (row : Row)
-    → Tallying (rows_of m source) t n k total → more ≡ length (replaced (rows_of m source) row) → m ≤ room source → length source < 2 ^ 64 → total + more < 2 ^ 64
-tally_fits source m row h q a b = omega (arith, h.tally, few_replaced (rows_of m source) row, length_rows_of m source)
+pub tally_fits : {t : List ℕ} (source : List ℕ) {n k total more : ℕ} (row : Row)
+    → Tallying (rows_all source) t n k total → more ≡ length (replaced (rows_all source) row) → length source < 2 ^ 64 → total + more < 2 ^ 64
+tally_fits source row h q b = omega (arith, h.tally, few_replaced (rows_all source) row, length_rows_of (room source) source)

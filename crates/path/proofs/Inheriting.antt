@@ -2,17 +2,17 @@
 use mathlib.Core.Path.{◌≡◌, refl, sym, ap, ap₂, ◌∙◌}
 use mathlib.Core.List.{List, [], ◌∷◌}
 use mathlib.Core.Bool.{Bool, true, false, true≢false}
-use Prim.Native.Nat.{ℕ, min, ◌+◌, ◌^◌, ◌≤◌, ◌<◌}
+use Prim.Native.Nat.{ℕ, min, ◌+◌, ◌*◌, ◌^◌, ◌≤◌, ◌<◌}
 use native.Mathlib.Omega.{arith}
 use lib.Dec.{eqb}
-use lib.ListN.{length, get_or}
+use lib.ListN.{length, get_or, take}
 use borrow.Author.Tests.{lt-ltb, le-ltb}
 use Rattle.std.specs.Prelude.{Ok, Err}
 use Rattle.number.proofs.Picks.{pick_not}
-use Rattle.table.specs.Sizes.{max_rows, table_numbers}
+use Rattle.table.specs.Sizes.{row_numbers, max_rows, table_numbers}
 use Rattle.table.specs.Rows.{Row, room, rows_of, rows_in, with_rows}
-use Rattle.table.proofs.laws.Rows.{length_rows_of, with_rows_same}
-use Rattle.path.specs.Inherit.{resolved, Spaces, all, lacks, lacking, filled_in, inherit, inherits, told, count_of, Filling, Inherited}
+use Rattle.table.proofs.laws.Rows.{length_rows_of, rows_cut, with_rows_same}
+use Rattle.path.specs.Inherit.{rows_all, resolved, Spaces, all, lacks, lacking, filled_in, inherit, inherits, told, count_of, Filling, Inherited}
 use Rattle.path.specs.declared.inherits.Uninherited.{Uninherited}
 use Rattle.path.specs.declared.inherits.Uninherited.TheVariants as uninherited
 
@@ -61,26 +61,30 @@ module _ (own issuer : List ℕ) (k n m : ℕ) {r : Bool} (e : r ≡ inherits (r
       let w : with_rows own 0 (rows_of k own) ≡ own = with_rows_same k 0 own (omega arith) l in
       sym (none_is ∙ rw (length_rows_of k own, le-ltb max_rows k h) (ap (λ (x : List ℕ). (Ok k, x)) w))
 
-module _ (own issuer : List ℕ) (k j : ℕ) (r : Inherited) (e : r ≡ count_of (rows_of j issuer) (rows_of k own)) where
+-- the issuer's run, cut off after as many rows as asked for
+pub cut_off : (m j : ℕ) (issuer : List ℕ) → j ≡ min m (room issuer) → rows_all (take (row_numbers * j) issuer) ≡ rows_in m issuer
+cut_off m j issuer p = rows_cut j issuer (omega arith) ∙ ap (λ (i : ℕ). rows_of i issuer) p
+
+module _ (own : List ℕ) (held : List Row) (k : ℕ) (r : Inherited) (e : r ≡ count_of held (rows_of k own)) where
   -- the rows after inheritance
   abbrev rows : List Row
-  rows = resolved (rows_of j issuer) (rows_of k own)
+  rows = resolved held (rows_of k own)
 
   -- what was found: a space that the issuer does not have, or how many rows they are
-  no_space : (x : Uninherited) → r ≡ Err x → (t : ℕ) × (lacking (rows_of j issuer) (rows_of k own) ≡ lacks t) × (x ≡ uninherited.NoSpace t)
+  no_space : (x : Uninherited) → r ≡ Err x → (t : ℕ) × (lacking held (rows_of k own) ≡ lacks t) × (x ≡ uninherited.NoSpace t)
   unfolding count_of
-  no_space x f = was_lacking (lacking (rows_of j issuer) (rows_of k own)) (length rows) x (sym f ∙ e)
+  no_space x f = was_lacking (lacking held (rows_of k own)) (length rows) x (sym f ∙ e)
 
-  found : (total : ℕ) → r ≡ Ok total → (lacking (rows_of j issuer) (rows_of k own) ≡ all) × (total ≡ min (length rows) (max_rows + 1))
+  found : (total : ℕ) → r ≡ Ok total → (lacking held (rows_of k own) ≡ all) × (total ≡ min (length rows) (max_rows + 1))
   unfolding count_of
-  found total f = was_all (lacking (rows_of j issuer) (rows_of k own)) (length rows) total (sym f ∙ e)
+  found total f = was_all (lacking held (rows_of k own)) (length rows) total (sym f ∙ e)
 
   -- where they are not too many, they can be written
-  pub inherit_fills : k ≤ room own → (total : ℕ) → r ≡ Ok total → total ≤ max_rows → Filling (rows_of j issuer) own k total
+  pub inherit_fills : k ≤ room own → (total : ℕ) → r ≡ Ok total → total ≤ max_rows → Filling held own k total
   inherit_fills i total f h = let (s, c) = found total f in record { there = i; covered = s; upto = omega (arith, c) }
 
   -- the answers, in a table that is long enough
-  module _ (n m : ℕ) (long : table_numbers ≤ length own) (p : k ≡ min n (room own)) (q : j ≡ min m (room issuer)) where
+  module _ (n m : ℕ) (issuer : List ℕ) (long : table_numbers ≤ length own) (p : k ≡ min n (room own)) (q : held ≡ rows_in m issuer) where
     pub inherit_lacks : (x : Uninherited) → r ≡ Err x → (Err x, own) ≡ inherit n own m issuer
     unfolding inherit
     inherit_lacks x f = let (t, s, y) = no_space x f in ap (λ (z : Uninherited). (Err z, own)) y ∙ rw (le-ltb (length own) table_numbers long, ← p, ← q, s)

@@ -5,11 +5,11 @@ use Prim.Native.Nat.{ℕ, ◌+◌, ◌-◌, ◌≤◌, ◌<◌}
 use native.Mathlib.Nat.{sub-zero}
 use native.Mathlib.Omega.{arith}
 use lib.ListN.{length, length-append}
-use borrow.Author.Tests.{eq-eqb, ne_eqb}
+use borrow.Author.Tests.{ne_eqb}
 use Rattle.table.specs.Rows.{Row, seen, in_halves, room, row_at, with_row, rows_of, with_rows}
 use Rattle.table.specs.declared.rows.Row as code
 use Rattle.table.proofs.laws.Rows.{length_with_row, length-with_rows, with_rows-append, with_rows_swap, rows_kept, length_rows_of}
-use Rattle.path.specs.Inherit.{in_space, resolved, Spaces, all, lacks, or_lacks, lacking, replaced, up_to, Filling}
+use Rattle.path.specs.Inherit.{rows_all, in_space, resolved, Spaces, all, lacks, or_lacks, lacking, replaced, up_to, Filling}
 use Rattle.path.proofs.Parts.{rows_got, space_yes, space_no, first_of, lacking_last, resolved_last, no_fewer}
 
 -- ROWS UP TO A PLACE
@@ -48,9 +48,9 @@ pub record Placing (o : ℕ × List ℕ) (l : ℕ) (source : List ℕ) (s : ℕ)
   pub there : k ≤ room source
   pub same : length t ≡ l
 
-pub place_start : (source : List ℕ) (s : ℕ) (t : List ℕ) (m end : ℕ) → (m ≤ room source) × (length (in_space s (rows_of m source)) ≤ end)
-    → Placing (up_to t end (in_space s (rows_of m source))) (length t) source s t m end
-place_start source s t m end (a, b) = record { held = refl; fits = b; there = a; same = refl }
+pub place_start : (source : List ℕ) (s : ℕ) (t : List ℕ) (end : ℕ) → length (in_space s (rows_all source)) ≤ end
+    → Placing (up_to t end (in_space s (rows_all source))) (length t) source s t (room source) end
+place_start source s t end b = record { held = refl; fits = b; there = omega arith; same = refl }
 
 module _ {o : ℕ × List ℕ} {l : ℕ} {source : List ℕ} {s : ℕ} {t : List ℕ} {k w : ℕ} (h : Placing o l source s t k w) where
   -- no row is left
@@ -93,20 +93,9 @@ module _ {o : ℕ × List ℕ} {l : ℕ} {source : List ℕ} {s : ℕ} {t : List
 
 -- ONE ROW
 
-module _ (issuer : List Row) (row : code.Row) where
-  -- it inherits
-  pub row_inherits : (t : List ℕ) (end : ℕ) (o : ℕ × List ℕ) → row.inherit ≡ 1 → o ≡ up_to t end (in_space row.space issuer) → o ≡ up_to t end (replaced issuer (seen row))
-  row_inherits t end o e h = rw (eq-eqb row.inherit 1 e) h
-
-  pub inherits_fits : (end : ℕ) → row.inherit ≡ 1 → length (replaced issuer (seen row)) ≤ end → length (in_space row.space issuer) ≤ end
-  inherits_fits end e h = rw (eq-eqb row.inherit 1 e) at h
-
-  -- it does not
-  pub row_lists : (t : List ℕ) (end : ℕ) (u : List ℕ) → (row.inherit ≡ 1 → ⊥) → u ≡ with_row t (end - 1) (seen row) → (end - 1, u) ≡ up_to t end (replaced issuer (seen row))
-  row_lists t end u e h = rw (ne_eqb row.inherit 1 e) (up_to_one t end (seen row) h)
-
-  pub lists_fits : (end : ℕ) → (row.inherit ≡ 1 → ⊥) → length (replaced issuer (seen row)) ≤ end → 1 ≤ end
-  lists_fits end e h = rw (ne_eqb row.inherit 1 e) at h
+-- it does not inherit
+pub row_lists : (issuer : List Row) (row : code.Row) (t : List ℕ) (end : ℕ) (u : List ℕ) → (row.inherit ≡ 1 → ⊥) → u ≡ with_row t (end - 1) (seen row) → (end - 1, u) ≡ up_to t end (replaced issuer (seen row))
+row_lists issuer row t end u e h = rw (ne_eqb row.inherit 1 e) (up_to_one t end (seen row) h)
 
 -- ALL ROWS
 

@@ -14,13 +14,12 @@ pub enum Uninherited {
     Short,
 }
 
-// How many of the issuer's first m rows are in the space.
-fn count_in(issuer: &[u64], m: usize, space: u64) -> usize
-    requires { m ≤ room issuer.now }
-    ensures { result ≡ length (spec.in_space space (rows_of m issuer.now)) }
+// How many of the issuer's rows are in the space.
+fn count_in(issuer: &[u64], space: u64) -> usize
+    ensures { result ≡ length (spec.in_space space (spec.rows_all issuer.now)) }
 {
     let mut n: usize = 0;
-    for k in 0..m {
+    for k in 0..issuer.len() / rows::ROW {
         if rows::space(issuer, k) == space {
             n += 1;
         }
@@ -29,25 +28,24 @@ fn count_in(issuer: &[u64], m: usize, space: u64) -> usize
 }
 
 // How many rows a row is after inheritance.
-fn count_row(row: Row, issuer: &[u64], m: usize) -> usize
-    requires { m ≤ room issuer.now }
-    ensures { result ≡ length (spec.replaced (rows_of m issuer.now) (seen row)) }
+fn count_row(row: Row, issuer: &[u64]) -> usize
+    ensures { result ≡ length (spec.replaced (spec.rows_all issuer.now) (seen row)) }
 {
     if row.inherit == 1 {
-        return count_in(issuer, m, row.space);
+        return count_in(issuer, row.space);
     }
     1
 }
 
 // How many rows the first n rows are after inheritance, by the lowest space first. More than a table has are counted as one more.
-fn count_all(own: &[u64], n: usize, issuer: &[u64], m: usize) -> Result<usize, Uninherited>
-    requires { (n ≤ room own.now) × (m ≤ room issuer.now) }
-    ensures { result ≡ spec.count_of (rows_of m issuer.now) (rows_of n own.now) }
+fn count_all(own: &[u64], n: usize, issuer: &[u64]) -> Result<usize, Uninherited>
+    requires { n ≤ room own.now }
+    ensures { result ≡ spec.count_of (spec.rows_all issuer.now) (rows_of n own.now) }
 {
     let mut total: usize = 0;
     for k in 0..n {
         let row = rows::get(own, k);
-        let more = count_row(row, issuer, m);
+        let more = count_row(row, issuer);
         if more == 0 {
             return Err(Uninherited::NoSpace(row.space));
         }
@@ -57,12 +55,12 @@ fn count_all(own: &[u64], n: usize, issuer: &[u64], m: usize) -> Result<usize, U
 }
 
 // Writes the issuer's rows of a space up to row `end`, from the last to the first. Returns where they start.
-fn put_space(own: &mut [u64], end: usize, issuer: &[u64], m: usize, space: u64) -> usize
-    requires { (m ≤ room issuer.now) × (length (spec.in_space space (rows_of m issuer.now)) ≤ end) }
-    ensures { (result, own.new) ≡ spec.up_to own.old end (spec.in_space space (rows_of m issuer.now)) }
+fn put_space(own: &mut [u64], end: usize, issuer: &[u64], space: u64) -> usize
+    requires { length (spec.in_space space (spec.rows_all issuer.now)) ≤ end }
+    ensures { (result, own.new) ≡ spec.up_to own.old end (spec.in_space space (spec.rows_all issuer.now)) }
 {
     let mut w = end;
-    for k in (0..m).rev() {
+    for k in (0..issuer.len() / rows::ROW).rev() {
         let row = rows::get(issuer, k);
         if row.space == space {
             w -= 1;
@@ -73,27 +71,26 @@ fn put_space(own: &mut [u64], end: usize, issuer: &[u64], m: usize, space: u64) 
 }
 
 // Writes what a row is after inheritance up to row `end`. Returns where it starts.
-fn put_row(own: &mut [u64], end: usize, issuer: &[u64], m: usize, row: Row) -> usize
-    requires { (m ≤ room issuer.now) × (length (spec.replaced (rows_of m issuer.now) (seen row)) ≤ end) }
-    ensures { (result, own.new) ≡ spec.up_to own.old end (spec.replaced (rows_of m issuer.now) (seen row)) }
+fn put_row(own: &mut [u64], end: usize, issuer: &[u64], row: Row) -> usize
+    requires { length (spec.replaced (spec.rows_all issuer.now) (seen row)) ≤ end }
+    ensures { (result, own.new) ≡ spec.up_to own.old end (spec.replaced (spec.rows_all issuer.now) (seen row)) }
 {
     if row.inherit == 1 {
-        return put_space(own, end, issuer, m, row.space);
+        return put_space(own, end, issuer, row.space);
     }
     rows::put(own, end - 1, row);
     end - 1
 }
 
 // Writes the rows after inheritance up to row `total`, from the last to the first: no row is written over before it is read.
-fn put_all(own: &mut [u64], n: usize, issuer: &[u64], m: usize, total: usize)
-    requires filling { spec.Filling (rows_of m issuer.now) own.old n total }
-    requires there { m ≤ room issuer.now }
-    ensures { own.new ≡ with_rows own.old 0 (spec.resolved (rows_of m issuer.now) (rows_of n own.old)) }
+fn put_all(own: &mut [u64], n: usize, issuer: &[u64], total: usize)
+    requires { spec.Filling (spec.rows_all issuer.now) own.old n total }
+    ensures { own.new ≡ with_rows own.old 0 (spec.resolved (spec.rows_all issuer.now) (rows_of n own.old)) }
 {
     let mut w = total;
     for k in (0..n).rev() {
         let row = rows::get(own, k);
-        w = put_row(own, w, issuer, m, row);
+        w = put_row(own, w, issuer, row);
     }
 }
 
@@ -125,11 +122,11 @@ pub fn inherit(own: &mut [u64], n: usize, issuer: &[u64], m: usize) -> Result<us
         }
         return Ok(count);
     }
-    let over = rows::count(issuer, m);
-    let total = count_all(own, count, issuer, over)?;
+    let issuer = &issuer[..rows::ROW * rows::count(issuer, m)];
+    let total = count_all(own, count, issuer)?;
     if rows::ROWS < total {
         return Err(Uninherited::TooMany);
     }
-    put_all(own, count, issuer, over, total);
+    put_all(own, count, issuer, total);
     Ok(total)
 }

@@ -1,5 +1,4 @@
 -- `path::inherits::any_inherits` meets its contract. Assumes nothing.
-use borrow.Author.Rules.{rules}
 use Rattle.path.proofs.Counting.{ask_start, ask_yes, ask_no, ask_end}
 use Rattle.path.proofs.inherits.any_inherits.Goals as goal
 

@@ -1,6 +1,6 @@
-use Rattle.table.specs.Rows.{rows_of}
+use Rattle.path.specs.Inherit.{rows_all}
 use Rattle.path.proofs.Counting.{Tallying}
 use Rattle.path.proofs.inherits.count_all.Given as goal
 
 abbrev pub invariant-loop-k : goal.invariant-loop-k
-invariant-loop-k l = Tallying (rows_of l.m l.issuer) l.own l.n l.k l.total
+invariant-loop-k l = Tallying (rows_all l.issuer) l.own l.n l.k l.total

@@ -1,6 +1,6 @@
 -- `path::inherits::inherit` meets its contract. Assumes nothing.
 use borrow.Author.Rules.{rules}
-use Rattle.path.proofs.Inheriting.{none_many, none_rows, count_there, inherit_short, inherit_lacks, inherit_many, inherit_fills, inherit_rows}
+use Rattle.path.proofs.Inheriting.{none_many, none_rows, count_there, cut_off, inherit_short, inherit_lacks, inherit_many, inherit_fills, inherit_rows}
 use Rattle.path.proofs.inherits.inherit.Goals as goal
 
 pub returns-then-own-lt-NUMBERS : goal.returns-then-own-lt-NUMBERS
@@ -12,14 +12,14 @@ returns-then-count-gt-ROWS c = search (none_many, rules)
 pub returns-then-not-any_inherits : goal.returns-then-not-any_inherits
 returns-then-not-any_inherits c = search (none_rows, rules)
 
-pub returns-then-total-gt-ROWS : goal.returns-then-total-gt-ROWS
-returns-then-total-gt-ROWS c = search (c.in_ok-total.was, inherit_many, rules)
-
-pub put_all-requires-clause-filling : goal.put_all-requires-clause-filling
-put_all-requires-clause-filling c = inherit_fills _ _ _ _ _ c.count_all.ensures (count_there _ _ _ c.count-count.ensures) _ c.in_ok-total.was c.if-total-gt-ROWS.false
-
 pub returns-in_err-total : goal.returns-in_err-total
-returns-in_err-total c = search (inherit_lacks, rules)
+returns-in_err-total c = search (c.in_err-total.was, inherit_lacks, cut_off, rules)
+
+pub returns-then-total-gt-ROWS : goal.returns-then-total-gt-ROWS
+returns-then-total-gt-ROWS c = search (c.in_ok-total.was, inherit_many, cut_off, rules)
+
+pub put_all-requires : goal.put_all-requires
+put_all-requires c = inherit_fills _ _ _ _ c.count_all.ensures (count_there _ _ _ c.count-count.ensures) _ c.in_ok-total.was c.if-total-gt-ROWS.false
 
 pub returns : goal.returns
-returns c = search (c.in_ok-total.was, inherit_rows, rules)
+returns c = search (c.in_ok-total.was, inherit_rows, cut_off, rules)

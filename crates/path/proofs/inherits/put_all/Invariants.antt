@@ -1,8 +1,8 @@
 use lib.ListN.{length}
 use Rattle.table.specs.Rows.{rows_of, with_rows}
-use Rattle.path.specs.Inherit.{resolved}
+use Rattle.path.specs.Inherit.{rows_all, resolved}
 use Rattle.path.proofs.Putting.{Resolving}
 use Rattle.path.proofs.inherits.put_all.Given as goal
 
 abbrev pub invariant-loop-k : goal.invariant-loop-k
-invariant-loop-k l = Resolving (with_rows l.initial.own 0 (resolved (rows_of l.m l.issuer) (rows_of l.n l.initial.own))) (length l.initial.own) (rows_of l.m l.issuer) l.own l.k l.w
+invariant-loop-k l = Resolving (with_rows l.initial.own 0 (resolved (rows_all l.issuer) (rows_of l.n l.initial.own))) (length l.initial.own) (rows_all l.issuer) l.own l.k l.w
