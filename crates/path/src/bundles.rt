@@ -18,12 +18,6 @@ const MARK: [u8; 5] = [0x52, 0x43, 0x48, 0, 1];
 // The octets before the first certificate: mark, version and count.
 pub const HEAD: usize = 6;
 
-fn wide(x: u8) -> usize
-    ensures { (result ≡ x) × (result < 256) }
-{
-    x as usize
-}
-
 // Returns the 16-bit length that s begins with, high octet first; 0 where it is not there.
 pub fn length(s: &[u8]) -> usize
     ensures { (result ≡ spec.length_in s.now) × (result < 65536) }
@@ -31,7 +25,7 @@ pub fn length(s: &[u8]) -> usize
     if s.len() < 2 {
         return 0;
     }
-    wide(s[0]) * 256 + wide(s[1])
+    usize::from(s[0]) * 256 + usize::from(s[1])
 }
 
 // Returns where the value ends that s begins with, with its length before it; none if it is cut short.
@@ -79,7 +73,7 @@ pub fn frame(bundle: &[u8]) -> Result<usize, Refusal>
     if !is_marked(bundle) {
         return Err(Refusal::Mark);
     }
-    let count = wide(bundle[5]);
+    let count = usize::from(bundle[5]);
     if count == 0 || MOST_CERTIFICATES < count {
         return Err(Refusal::CertificateCount);
     }

@@ -76,7 +76,7 @@ fn stopped(space: u64, value: Halves, pairs: usize) -> Walked
 }
 
 // Walks the first n rows of `own` against the first m rows of `issuer`; a run with fewer rows counts with those that it has.
-// Returns whether each own number is the issuer's, or the smallest that is not, and the number of pairs looked at.
+// Returns the smallest own number that is not the issuer's, if there is one, and the number of pairs looked at.
 pub fn walk(own: &[u64], n: usize, issuer: &[u64], m: usize) -> Walked
     ensures { result ≡ spec.walked_of (spec.walk (rows_in n own.now) (rows_in m issuer.now)) }
 {
