@@ -1,16 +1,14 @@
 -- Numbers in two halves of 64 bits: stepped, and put together again. (Compared: laws/Orders.) Theorems. Assumes nothing.
 --     halves_whole, whole_halves       two halves and their number, both ways
 --     next_below                       a number that is not the last one has its successor after it
---     past_next                        more than 1 past
 use Prim.Native.Nat.{ℕ, ◌+◌, ◌-◌, ◌*◌, ◌/◌, ◌%◌, ◌<◌, ◌≤◌, ◌^◌}
 use mathlib.Core.Path.{◌≡◌, refl, sym, ap, ap₂, ◌∙◌}
 use mathlib.Core.Bool.{Bool, true, false}
 use native.Mathlib.Nat.{div-add-mod', not-le_of_lt}
 use native.Mathlib.Omega.{arith}
 use lib.Arith.{digits_lt}
-use lib.Dec.{ltb, eqb}
 use lib.Pow.{high, low, pow-add}
-use borrow.Author.Tests.{eqb-true, le-ltb, eq-eqb, ne_eqb}
+use borrow.Author.Tests.{eq-eqb, ne_eqb}
 use Rattle.number.specs.Halves.{whole, halves, next}
 use Rattle.number.specs.declared.halves.Halves.{Halves}
 
@@ -71,12 +69,3 @@ module _ (a : Halves) where
 -- a number below another of 128 bits is not the last
 pub next_below : (n m : ℕ) → n < m → m < 2 ^ 128 → next n ≡ n + 1
 next_below n m p q = sym (next_more n (λ (e : n ≡ 2 ^ 128 - 1). not-le_of_lt q (rw e at p)))
-
--- a number is more than 1 past another exactly if it is past the next one, which the last number is not
-pub past_next : {r : Bool} {h : Halves} (n m : ℕ) → m < 2 ^ 128 → h ≡ halves (next n) → r ≡ ltb (whole h) m → r ≡ ltb (n + 1) m
-unfolding next
-past_next {r} {h} n m b e p = p ∙ ap (λ (x : Halves). ltb (whole x) m) e ∙ ap (λ (x : ℕ). ltb x m) (whole_halves (next n)) ∙ go (eqb n (2 ^ 128 - 1)) refl
-  where
-    go : (t : Bool) → eqb n (2 ^ 128 - 1) ≡ t → ltb (next n) m ≡ ltb (n + 1) m
-    go true q = let k = eqb-true n (2 ^ 128 - 1) q in rw q (le-ltb n m (omega arith) ∙ sym (le-ltb (n + 1) m (omega arith)))
-    go false q = rw q refl

@@ -49,9 +49,23 @@ pub fn next(a: Halves) -> Halves
     a
 }
 
+// Whether b is more than 1 past a.
+fn apart(a: u64, b: u64) -> bool
+    ensures { result ≡ ltb (a + 1) b }
+{
+    a < b && 1 < b - a
+}
+
 // Returns whether low is more than 1 past high ("each low is greater than the high before it plus 1"): never at the last number.
 pub fn past(high: Halves, low: Halves) -> bool
     ensures { result ≡ ltb (spec.whole high + 1) (spec.whole low) }
 {
-    next(high) < low
+    if high.upper == low.upper {
+        return apart(high.lower, low.lower);
+    }
+    // Only a high that ends in ones and a low that ends in zeros can be neighbours.
+    if high.lower < u64::MAX || 0 < low.lower {
+        return high.upper < low.upper;
+    }
+    apart(high.upper, low.upper)
 }

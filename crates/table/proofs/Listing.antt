@@ -1,5 +1,5 @@
 -- The loop of `is_table`: what holds at its head, and what each way on from there gives. Assumes nothing.
-use mathlib.Core.Path.{◌≡◌, refl, sym, ap, ap₂, ◌∙◌}
+use mathlib.Core.Path.{◌≡◌, sym, ap, ap₂, ◌∙◌}
 use mathlib.Core.List.{List, ◌∷◌}
 use mathlib.Core.Bool.{Bool, true, false}
 use Prim.Native.Nat.{ℕ, suc, ◌+◌, ◌-◌, ◌*◌, ◌%◌, ◌≤◌, ◌<◌}
@@ -23,37 +23,34 @@ rows_more t k m h =
     ap₂ (λ (r : Row) (l : List ℕ). r ∷ rows_of m l) (sym (row_at_lem t k h)) (drop-drop row_numbers (row_numbers * k) t ∙ ap (λ (n : ℕ). drop n t) e)
 
 -- o is what the definition gives for the whole; row k is the next, after `before`
-pub record Listing (o : Bool) (kind : ℕ) (t : List ℕ) (count : ℕ) (before : code.Row) (k : ℕ) : Type 0 where
-  pub held : listed kind (seen before) (rows_of (count - k) (drop (row_numbers * k) t)) ≡ o
-  pub upto : k ≤ count
-  pub full : count ≡ room t
+pub record Listing (o : Bool) (kind : ℕ) (t : List ℕ) (before : code.Row) (k : ℕ) : Type 0 where
+  pub held : listed kind (seen before) (rows_of (room t - k) (drop (row_numbers * k) t)) ≡ o
+  pub upto : k ≤ room t
 
 -- where the first three tests hold, the loop begins with the row of zeros
 pub list_start : (kind : ℕ) (t : List ℕ) → kind ≤ as_kind → length t % row_numbers ≡ 0 → length t ≤ table_numbers
-    → Listing (is_table kind t) kind t (room t) (record { space = 0; inherit = 0; low = record { upper = 0; lower = 0 }; high = record { upper = 0; lower = 0 } }) 0
+    → Listing (is_table kind t) kind t (record { space = 0; inherit = 0; low = record { upper = 0; lower = 0 }; high = record { upper = 0; lower = 0 } }) 0
 unfolding is_table
 list_start kind t p e q =
     record {
       held = rw (le-ltb as_kind kind p, eq-eqb (length t % row_numbers) 0 e, le-ltb table_numbers (length t) q, sub-zero (room t));
       upto = omega arith;
-      full = refl;
     }
 
-module _ {o : Bool} {kind : ℕ} {t : List ℕ} {count : ℕ} {before : code.Row} {k : ℕ} (h : Listing o kind t count before k) where
+module _ {o : Bool} {kind : ℕ} {t : List ℕ} {before : code.Row} {k : ℕ} (h : Listing o kind t before k) where
   -- all rows were listed
-  pub list_end : count ≤ k → true ≡ o
+  pub list_end : room t ≤ k → true ≡ o
   unfolding listed rows_of
-  list_end p = let e : count - k ≡ 0 = omega arith in rw e at h.held
+  list_end p = let e : room t - k ≡ 0 = omega arith in rw e at h.held
 
-  module _ (row : code.Row) (p : k < count) (e : row ≡ in_halves (row_at t k)) where
+  module _ (row : code.Row) (p : k < room t) (e : row ≡ in_halves (row_at t k)) where
     -- the row that is read is the next one
-    next : listed kind (seen before) (seen row ∷ rows_of (count - (k + 1)) (drop (row_numbers * (k + 1)) t)) ≡ o
+    next : listed kind (seen before) (seen row ∷ rows_of (room t - (k + 1)) (drop (row_numbers * (k + 1)) t)) ≡ o
     next =
-        let f : k < room t = omega (arith, h.full) in
-        let g : count - k ≡ suc (count - (k + 1)) = omega arith in
+        let g : room t - k ≡ suc (room t - (k + 1)) = omega arith in
         let q : seen row ≡ row_at t k = ap (λ (r : code.Row). seen r) e ∙ row_code (row_at t k) in
-        ap (λ (r : Row). listed kind (seen before) (r ∷ rows_of (count - (k + 1)) (drop (row_numbers * (k + 1)) t))) q
-        ∙ rw (← rows_more t k (count - (k + 1)) f, ← g) h.held
+        ap (λ (r : Row). listed kind (seen before) (r ∷ rows_of (room t - (k + 1)) (drop (row_numbers * (k + 1)) t))) q
+        ∙ rw (← rows_more t k (room t - (k + 1)) p, ← g) h.held
 
     module _ (b : Bool) (q : b ≡ proper kind (seen row)) where
       -- a row that may not stand in the table
@@ -68,6 +65,6 @@ module _ {o : Bool} {kind : ℕ} {t : List ℕ} {count : ℕ} {before : code.Row
         list_follows f = rw (sym q ∙ y, sym s ∙ f) at next
 
         -- a row that may
-        pub list_turn : d ≡ true → Listing o kind t count row (k + 1)
+        pub list_turn : d ≡ true → Listing o kind t row (k + 1)
         unfolding listed
-        list_turn f = record { held = rw (sym q ∙ y, sym s ∙ f) at next; upto = omega arith; full = h.full }
+        list_turn f = record { held = rw (sym q ∙ y, sym s ∙ f) at next; upto = omega arith }

@@ -29,18 +29,11 @@ pub const NOTHING: Row = Row {
     high: ZERO,
 };
 
-// Returns the lower of two counts.
-pub fn fewer(a: usize, b: usize) -> usize
-    ensures { result ≡ min a b }
-{
-    if a < b { a } else { b }
-}
-
 // Returns how many of its first n rows a run has: n, or all that fit it.
 pub fn count(run: &[u64], n: usize) -> usize
     ensures { result ≡ min n (room run.now) }
 {
-    fewer(n, run.len() / ROW)
+    n.min(run.len() / ROW)
 }
 
 // Returns the space of row n of a run, or 0 where the run has no row n.
@@ -95,13 +88,11 @@ pub fn high(run: &[u64], n: usize) -> Halves
 pub fn get(run: &[u64], n: usize) -> Row
     ensures { result ≡ in_halves (row_at run.now n) }
 {
-    let low = low(run, n);
-    let high = high(run, n);
     Row {
         space: space(run, n),
         inherit: inherit(run, n),
-        low: low,
-        high: high,
+        low: low(run, n),
+        high: high(run, n),
     }
 }
 
@@ -125,9 +116,6 @@ pub fn put(run: &mut [u64], n: usize, row: Row)
 pub fn clear(run: &mut [u64], count: usize)
     ensures { run.new ≡ cleared count run.old }
 {
-    let mut k: usize = 0;
-    while k < count && k < run.len() {
-        run[k] = 0;
-        k += 1;
-    }
+    let n = count.min(run.len());
+    run[..n].fill(0);
 }

@@ -27,29 +27,20 @@ pub const AS: u64 = 2;
 fn between(first: u64, last: u64, space: u64) -> bool
     ensures { result ≡ spec.between first last space }
 {
-    if first <= space {
-        return space <= last;
-    }
-    false
+    (first..=last).contains(&space)
 }
 
 // Returns the kind of a space: IP or AS, or 0 where there is no such space.
 pub fn kind(space: u64) -> u64
     ensures { result ≡ spec.kind_of space }
 {
-    if between(IPV4, IPV4_LAST, space) {
-        return IP;
+    if between(IPV4, IPV4_LAST, space) || between(IPV6, IPV6_LAST, space) {
+        IP
+    } else if space == AS_NUMBERS || space == ROUTING_DOMAINS {
+        AS
+    } else {
+        0
     }
-    if between(IPV6, IPV6_LAST, space) {
-        return IP;
-    }
-    if space == AS_NUMBERS {
-        return AS;
-    }
-    if space == ROUTING_DOMAINS {
-        return AS;
-    }
-    0
 }
 
 // Returns how many bits the numbers of a space have: 128 in the spaces of AFI 0002, else 32.
@@ -57,7 +48,8 @@ pub fn width(space: u64) -> Width
     ensures { result ≡ spec.width_of space }
 {
     if between(IPV6, IPV6_LAST, space) {
-        return Width::Bits128;
+        Width::Bits128
+    } else {
+        Width::Bits32
     }
-    Width::Bits32
 }

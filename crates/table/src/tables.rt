@@ -14,12 +14,7 @@ fn fits(width: Width, n: Halves) -> bool
     ensures { result ≡ spec.fits width (whole n) }
 {
     match width {
-        Width::Bits32 => {
-            if n.upper == 0 {
-                return n.lower <= 4294967295;
-            }
-            false
-        },
+        Width::Bits32 => n.upper == 0 && n.lower <= 4294967295,
         Width::Bits128 => true,
     }
 }
@@ -28,21 +23,17 @@ fn fits(width: Width, n: Halves) -> bool
 fn takes(kind: u64, own: u64) -> bool
     ensures { result ≡ spec.takes kind own }
 {
-    if kind == spaces::MIXED {
-        return true;
-    }
-    kind == own
+    kind == spaces::MIXED || kind == own
 }
 
 // Whether low and high are as the row's mark says: zeros where it inherits, else in order and not above the width.
 fn marked(row: Row) -> bool
     ensures { result ≡ spec.marked (seen row) }
 {
-    match row.inherit {
-        0 => row.low <= row.high && fits(spaces::width(row.space), row.high),
-        1 => row.low == ZERO && row.high == ZERO,
-        _ => false,
+    if row.inherit == 1 {
+        return row.low == ZERO && row.high == ZERO;
     }
+    row.inherit == 0 && row.low <= row.high && fits(spaces::width(row.space), row.high)
 }
 
 // Whether a row may stand in a table of the kind, whatever stands before it.
@@ -50,13 +41,7 @@ fn proper(kind: u64, row: Row) -> bool
     ensures { result ≡ spec.proper kind (seen row) }
 {
     let own = spaces::kind(row.space);
-    if own == 0 {
-        return false;
-    }
-    if takes(kind, own) {
-        return marked(row);
-    }
-    false
+    own != 0 && takes(kind, own) && marked(row)
 }
 
 // Whether a row may come after another: a higher space, or in the same space more than 1 past it, where neither inherits.
@@ -64,13 +49,7 @@ fn follows(before: Row, row: Row) -> bool
     ensures { result ≡ spec.follows (seen before) (seen row) }
 {
     if before.space == row.space {
-        if before.inherit == 1 {
-            return false;
-        }
-        if row.inherit == 1 {
-            return false;
-        }
-        return halves::past(before.high, row.low);
+        return before.inherit != 1 && row.inherit != 1 && halves::past(before.high, row.low);
     }
     before.space < row.space
 }
@@ -80,28 +59,16 @@ fn follows(before: Row, row: Row) -> bool
 pub fn is_table(kind: u64, numbers: &[u64]) -> bool
     ensures { result ≡ spec.is_table kind numbers.now }
 {
-    if spaces::AS < kind {
+    if spaces::AS < kind || numbers.len() % rows::ROW != 0 || rows::NUMBERS < numbers.len() {
         return false;
     }
-    if numbers.len() % rows::ROW != 0 {
-        return false;
-    }
-    if rows::NUMBERS < numbers.len() {
-        return false;
-    }
-    let count = numbers.len() / rows::ROW;
     let mut before = rows::NOTHING;
-    let mut k: usize = 0;
-    while k < count {
+    for k in 0..numbers.len() / rows::ROW {
         let row = rows::get(numbers, k);
-        if !proper(kind, row) {
-            return false;
-        }
-        if !follows(before, row) {
+        if !proper(kind, row) || !follows(before, row) {
             return false;
         }
         before = row;
-        k += 1;
     }
     true
 }

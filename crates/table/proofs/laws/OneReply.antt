@@ -1,6 +1,5 @@
 -- One reply: two replies that a function's promise allows are equal, and so is what they leave in a lent buffer (`Rattle.number.proofs.laws.OneReply`). Theorems. Assumes nothing.
 use Rattle.number.proofs.laws.OneReply.{OneReply, one_reply}
-use Rattle.table.proofs.rows.fewer.Reads as fewer
 use Rattle.table.proofs.rows.count.Reads as count
 use Rattle.table.proofs.rows.space.Reads as space
 use Rattle.table.proofs.rows.inherit.Reads as inherit
@@ -12,10 +11,6 @@ use Rattle.table.proofs.rows.clear.Reads as clear
 use Rattle.table.proofs.spaces.kind.Reads as kind
 use Rattle.table.proofs.spaces.width.Reads as width
 use Rattle.table.proofs.tables.is_table.Reads as is_table
-
--- rows::fewer
-pub fewer_one_reply : OneReply fewer.Post (λ κs r s. r)
-fewer_one_reply κs a r r' s s' p q = one_reply p q
 
 -- rows::count
 pub count_one_reply : OneReply count.Post (λ κs r s. r)

@@ -1,19 +1,21 @@
 -- `table::tables::marked` meets its contract. Assumes nothing.
-use borrow.Author.Rules.{rules}
-use Rattle.table.proofs.RowTests.{inherits_low, inherits_high, lists_order, lists_width, not_marked}
+use native.Mathlib.Omega.{arith}
+use Rattle.std.proofs.lemmas.Grind.{common_steps}
+use Rattle.table.specs.Tables.{marked}
 use Rattle.table.proofs.tables.marked.Goals as goal
 
 pub returns-then-le : goal.returns-then-le
-returns-then-le c = search (lists_width, rules)
+unfolding marked
+returns-then-le c = grind (arith, common_steps)
 
 pub returns-else-le : goal.returns-else-le
-returns-else-le c = search (lists_order, rules)
+unfolding marked
+returns-else-le c = grind (arith, common_steps)
 
 pub returns-then-eq : goal.returns-then-eq
-returns-then-eq c = search (inherits_high, rules)
+unfolding marked
+returns-then-eq c = grind (arith, common_steps)
 
 pub returns-else-eq : goal.returns-else-eq
-returns-else-eq c = search (inherits_low, rules)
-
-pub returns-in_default : goal.returns-in_default
-returns-in_default c = search (not_marked, rules)
+unfolding marked
+returns-else-eq c = grind (arith, common_steps)
