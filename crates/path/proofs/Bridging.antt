@@ -20,7 +20,8 @@ use Rattle.table.specs.Rows.{Row, room, rows_of, with_rows, cleared}
 use Rattle.table.proofs.laws.Rows.{length-with_rows, rows_written, with_rows-append, cleared_twice, cleared_rows}
 use Rattle.der.specs.Parts.{Contents, is, isnt}
 use Rattle.values.specs.Limits.{ip_extension, as_extension, max_octets}
-use Rattle.values.specs.Faults.{Fault, at}
+use Rattle.values.specs.declared.faults.Fault.{Fault}
+use Rattle.values.specs.Faults.{at}
 use Rattle.values.specs.Tables.{ip_rows, as_rows}
 use Rattle.values.specs.Readings.{refused_with, settled, step_of, step_ip, step_as, on_as, step_both}
 use Rattle.values.specs.declared.readings.Refused.{Refused}

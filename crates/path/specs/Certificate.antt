@@ -6,7 +6,7 @@ use Rattle.table.specs.Sizes.{max_rows, table_numbers}
 use Rattle.table.specs.Rows.{Row, rows_in, with_rows, cleared}
 use Rattle.der.specs.Parts.{Contents, is, isnt}
 use Rattle.values.specs.Limits.{ip_extension, as_extension, max_octets}
-use Rattle.values.specs.Faults.{Fault}
+use Rattle.values.specs.declared.faults.Fault.{Fault}
 use Rattle.values.specs.Tables.{ip_rows, as_rows}
 use Rattle.values.specs.Readings.{naming}
 use Rattle.values.specs.declared.readings.Refused.{Refused}
@@ -43,7 +43,7 @@ carried v = pick (eqb (length v) 0) false true
 -- IP VALUE, AS VALUE: the rows of a value of certificate k; "An absent extension holds nothing". "value .. above 32,768"
 abbrev pub blamed : ℕ → ℕ → Contents (List Row) Fault → Step (List Row)
 blamed k extension (is rows) = is rows
-blamed k extension (isnt f) = isnt (naming f.0 k extension f.1)
+blamed k extension (isnt f) = isnt (naming f.refusal k extension f.place)
 
 abbrev pub value_step : ℕ → ℕ → List ℕ → Contents (List Row) Fault → Step (List Row)
 value_step k extension v rows =

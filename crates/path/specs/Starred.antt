@@ -4,7 +4,7 @@ use Rattle.number.specs.declared.refusal.Refusal.TheVariants as refusal
 use Rattle.table.specs.Rows.{Row}
 use Rattle.der.specs.Parts.{Contents, isnt}
 use Rattle.values.specs.Limits.{ip_extension}
-use Rattle.values.specs.Faults.{Fault}
+use Rattle.values.specs.declared.faults.Fault.{Fault}
 use Rattle.values.specs.Starred as values
 use Rattle.path.specs.Replies.{fault_at}
 use Rattle.path.specs.Certificate.{Step}

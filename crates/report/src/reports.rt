@@ -18,7 +18,7 @@ pub fn report(reply: Reply, table: &[u64], out: &mut [u8]) -> usize
     }
     match reply {
         Ok(done) => {
-            let most = rows::fewer(done.rows, rows::ROWS);
+            let most = done.rows.min(rows::ROWS);
             crate::put_ok(out, done.rows, done.pairs, table, rows::count(table, most))
         }
         Err(fault) => crate::put_no(out, fault),

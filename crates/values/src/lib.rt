@@ -7,7 +7,7 @@ mod brief_addresses;
 mod briefs;
 mod choices;
 mod elements;
-mod faults;
+pub mod faults;
 mod identifiers;
 pub mod ids;
 pub mod limits;

@@ -23,7 +23,7 @@ use Rattle.table.specs.Rows.{Row, cleared}
 use Rattle.path.specs.Bundle.{least_octets, most_octets, most_certificates, is_values, is_marked, frame_of, bundle_of}
 use Rattle.der.specs.Parts.{Contents, is, isnt}
 use Rattle.values.specs.Limits.{ip_extension, as_extension, max_octets, as_numbers}
-use Rattle.values.specs.Faults.{Fault}
+use Rattle.values.specs.declared.faults.Fault.{Fault}
 use Rattle.values.specs.Tables.{ip_rows, as_rows}
 use Rattle.values.specs.declared.readings.Refused.{Refused}
 use Rattle.path.specs.Walk.{Result, covered, missing, walk}

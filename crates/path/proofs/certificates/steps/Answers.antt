@@ -4,8 +4,8 @@ use Rattle.number.specs.Octets.{Octets}
 use Rattle.path.proofs.Bridging.{certificate_refused, certificate_lacks, certificate_inherits, read_few}
 use Rattle.path.proofs.certificates.steps.Goals as goal
 
-pub returns-in-Refused : goal.returns-in-Refused
-returns-in-Refused c =
+pub returns-in-Err : goal.returns-in-Err
+returns-in-Err c =
     let ip : Octets c.args.ip.now = unfold Octets in (λ i. (c.type_inv.ip i).fits) in
     let ids : Octets c.args.ids.now = unfold Octets in (λ i. (c.type_inv.ids i).fits) in
     search (certificate_refused, rules)
