@@ -11,16 +11,16 @@ use Rattle.number.proofs.Picks.{below}
 use Rattle.table.specs.Sizes.{max_rows}
 use Rattle.table.specs.Rows.{room}
 use Rattle.der.proofs.laws.Writing.{length-written}
-use Rattle.path.specs.declared.replies.Reply.{Reply}
-use Rattle.path.specs.declared.replies.Reply.TheVariants as reply
+use Rattle.path.specs.Replies.{Reply}
+use Rattle.std.specs.Prelude.{Ok, Err}
 use Rattle.report.specs.Reports.{text_of, room_for, report}
 use Rattle.report.proofs.Lines.{ok_most, no_most}
 
 -- a run with room for any report has room for this one
 text_fits : (r : Reply) (t out : List ℕ) → room_for ≤ length out → length (text_of r t) ≤ length out
 unfolding text_of
-text_fits (reply.Accepted count pairs) t out h = ok_most out count pairs (min (min count max_rows) (room t)) t (omega arith) h
-text_fits (reply.Refused f) t out h = no_most out f h
+text_fits (Ok done) t out h = ok_most out done.rows done.pairs (min (min done.rows max_rows) (room t)) t (omega arith) h
+text_fits (Err f) t out h = no_most out f h
 
 pub report_inside : {n : ℕ} {left : List ℕ} (r : Reply) (t out : List ℕ) → ◌≡◌ {A = ℕ × List ℕ} (n, left) (report r t out) → n ≤ length left
 unfolding report

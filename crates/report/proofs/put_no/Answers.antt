@@ -69,31 +69,31 @@ put-requires c = fit c.args.out.now c.args.fault c.requires
 
 pub field-requires : goal.field-requires
 field-requires c =
-    fits_same c.put.new.self.out.now c.put.new.self.at (field c.number.result) (ap field c.number.ensures) (next_fits (one c.args.out.now c.args.fault c.requires c.put.ensures.written))
+    fits_same c.put.new.self.out.now c.put.new.self.at (field c.from.result) (ap field c.from.ensures) (next_fits (one c.args.out.now c.args.fault c.requires c.put.ensures.written))
 
 pub field-requires-2 : goal.field-requires-2
-field-requires-2 c = next_fits (two c.args.out.now c.args.fault c.requires c.put.ensures.written c.number.ensures c.field.ensures.written)
+field-requires-2 c = next_fits (two c.args.out.now c.args.fault c.requires c.put.ensures.written c.from.ensures c.field.ensures.written)
 
 pub field-requires-3 : goal.field-requires-3
-field-requires-3 c = next_fits (three c.args.out.now c.args.fault c.requires c.put.ensures.written c.number.ensures c.field.ensures.written c.field-2.ensures.written)
+field-requires-3 c = next_fits (three c.args.out.now c.args.fault c.requires c.put.ensures.written c.from.ensures c.field.ensures.written c.field-2.ensures.written)
 
 pub field-requires-4 : goal.field-requires-4
-field-requires-4 c = next_fits (four c.args.out.now c.args.fault c.requires c.put.ensures.written c.number.ensures c.field.ensures.written c.field-2.ensures.written c.field-3.ensures.written)
+field-requires-4 c = next_fits (four c.args.out.now c.args.fault c.requires c.put.ensures.written c.from.ensures c.field.ensures.written c.field-2.ensures.written c.field-3.ensures.written)
 
 pub field-requires-5 : goal.field-requires-5
-field-requires-5 c = next_fits (five c.args.out.now c.args.fault c.requires c.put.ensures.written c.number.ensures c.field.ensures.written c.field-2.ensures.written c.field-3.ensures.written c.field-4.ensures.written)
+field-requires-5 c = next_fits (five c.args.out.now c.args.fault c.requires c.put.ensures.written c.from.ensures c.field.ensures.written c.field-2.ensures.written c.field-3.ensures.written c.field-4.ensures.written)
 
 pub hex_field-requires : goal.hex_field-requires
-hex_field-requires c = next_fits (six c.args.out.now c.args.fault c.requires c.put.ensures.written c.number.ensures c.field.ensures.written c.field-2.ensures.written c.field-3.ensures.written c.field-4.ensures.written c.field-5.ensures.written)
+hex_field-requires c = next_fits (six c.args.out.now c.args.fault c.requires c.put.ensures.written c.from.ensures c.field.ensures.written c.field-2.ensures.written c.field-3.ensures.written c.field-4.ensures.written c.field-5.ensures.written)
 
 pub put-requires-2 : goal.put-requires-2
-put-requires-2 c = next_fits (seven c.args.out.now c.args.fault c.requires c.put.ensures.written c.number.ensures c.field.ensures.written c.field-2.ensures.written c.field-3.ensures.written c.field-4.ensures.written c.field-5.ensures.written c.hex_field.ensures.written)
+put-requires-2 c = next_fits (seven c.args.out.now c.args.fault c.requires c.put.ensures.written c.from.ensures c.field.ensures.written c.field-2.ensures.written c.field-3.ensures.written c.field-4.ensures.written c.field-5.ensures.written c.hex_field.ensures.written)
 
 pub returns : goal.returns
 unfolding no_text
 returns c =
     let e = end
     (onward
-    (seven c.args.out.now c.args.fault c.requires c.put.ensures.written c.number.ensures c.field.ensures.written c.field-2.ensures.written c.field-3.ensures.written c.field-4.ensures.written c.field-5.ensures.written c.hex_field.ensures.written)
+    (seven c.args.out.now c.args.fault c.requires c.put.ensures.written c.from.ensures c.field.ensures.written c.field-2.ensures.written c.field-3.ensures.written c.field-4.ensures.written c.field-5.ensures.written c.hex_field.ensures.written)
     c.put-2.ensures.written) in
     search rules
