@@ -6,8 +6,11 @@ use mathlib.Core.List.{List, []}
 use mathlib.Core.Bool.{Bool, true, false}
 use Prim.Native.Nat.{ℕ, ◌+◌, ◌-◌, ◌≤◌}
 use native.Mathlib.Omega.{arith}
+use lib.Dec.{eqb}
 use lib.ListN.{length}
-use borrow.Author.Tests.{ne_eqb}
+use borrow.Author.Tests.{eq-eqb, ne_eqb}
+use Rattle.number.specs.Tests.{pick}
+use Rattle.std.specs.Prelude.{Option, Some, None}
 use Rattle.table.specs.Spaces.{kind_of}
 use Rattle.table.specs.Rows.{Row}
 use Rattle.der.specs.Tags.{SEQUENCE, NULL}
@@ -17,7 +20,7 @@ use Rattle.der.proofs.laws.Heads.{head_size_lem, head_few}
 use Rattle.der.proofs.laws.Writing.{head_written_lem}
 use Rattle.values.specs.Encode.{row_octets, group_heads}
 use Rattle.writer.specs.Writer.{list_most, choice_most, heads_most, element_size, Lists}
-use Rattle.writer.specs.Families.{Own, Opened, Upto, frame, open_heads, joins, closing, own}
+use Rattle.writer.specs.Families.{Own, Opened, Upto, frame, size_in, is_of, open_heads, joins, closing, own, onward}
 use Rattle.writer.specs.declared.families.Open.{Open}
 use Rattle.writer.proofs.laws.Groups.{heads_few}
 use Rattle.writer.proofs.laws.Families.{frame_size, inherit_is}
@@ -78,61 +81,96 @@ module _ {s u : List ℕ} (e : s ≡ u) where
   by_upto : {out left : List ℕ} {end r : ℕ} → Upto out end u r left → Upto out end s r left
   by_upto h = rw e h
 
+-- THE OPEN LIST
+module _ (list : Option Open) (r : Row) where
+  -- a row joins it by its space
+  pub join_some : (o : Open) → list ≡ Some o → (r.inherit ≡ 1 → ⊥) → eqb r.space o.space ≡ joins list r
+  unfolding joins
+  join_some o e n = rw (ne_eqb r.inherit 1 n, e)
+
+  -- none joins if there is none
+  pub join_none : list ≡ None → false ≡ joins list r
+  unfolding joins
+  join_none e = rw e (go (eqb r.inherit 1))
+    where
+      go : (b : Bool) → false ≡ pick b false false
+      go true = refl
+      go false = refl
+
+  -- with a row that lists numbers in front: m octets more where it joins the list
+  module _ (n : ℕ) where
+    listed_is : {m : ℕ} → m ≡ pick (is_of list r.space) (size_in list) 0 → (r.inherit ≡ 1 → ⊥) → Some (record { space = r.space; size = m + n }) ≡ onward list r n
+    unfolding onward
+    listed_is {m} e i = rw (ne_eqb r.inherit 1 i, e) (go (is_of list r.space))
+      where
+        go : (b : Bool) → ◌≡◌ {A = Option Open} (Some (record { space = r.space; size = pick b (size_in list) 0 + n })) (pick b (Some (record { space = r.space; size = size_in list + n })) (Some (record { space = r.space; size = n })))
+        go true = refl
+        go false = let z : 0 + n ≡ n = omega arith in ap (λ (k : ℕ). Some (record { space = r.space; size = k })) z
+
+    pub onward_same : (o : Open) {m : ℕ} → list ≡ Some o → (r.inherit ≡ 1 → ⊥) → r.space ≡ o.space → m ≡ o.size → Some (record { space = r.space; size = m + n }) ≡ onward list r n
+    onward_same o e i h q = listed_is (rw (e, eq-eqb r.space o.space h) q) i
+
+    pub onward_other : (o : Open) {m : ℕ} → list ≡ Some o → (r.inherit ≡ 1 → ⊥) → (r.space ≡ o.space → ⊥) → m ≡ 0 → Some (record { space = r.space; size = m + n }) ≡ onward list r n
+    onward_other o e i h q = listed_is (rw (e, ne_eqb r.space o.space h) q) i
+
+    pub onward_alone : {m : ℕ} → list ≡ None → (r.inherit ≡ 1 → ⊥) → m ≡ 0 → Some (record { space = r.space; size = m + n }) ≡ onward list r n
+    onward_alone e i q = listed_is (rw e q) i
+
 -- THE HEADS OF THE OPEN LIST
-module _ (kind : ℕ) (o : Open) where
-  no_heads : o.space ≡ 0 → open_heads kind o ≡ []
+module _ (kind : ℕ) (list : Option Open) where
+  no_heads : list ≡ None → open_heads kind list ≡ []
   unfolding open_heads
   no_heads e = rw e
 
-  some_heads : (o.space ≡ 0 → ⊥) → open_heads kind o ≡ frame kind o.space SEQUENCE o.size
+  some_heads : (o : Open) → list ≡ Some o → open_heads kind list ≡ frame kind o.space SEQUENCE o.size
   unfolding open_heads
-  some_heads n = rw (ne_eqb o.space 0 n)
+  some_heads o e = rw e
 
   -- counted
-  pub open_zero : o.space ≡ 0 → 0 ≡ length (open_heads kind o)
+  pub open_zero : list ≡ None → 0 ≡ length (open_heads kind list)
   open_zero e = by_size (no_heads e) refl
 
-  pub open_sum : {m : ℕ} → (o.space ≡ 0 → ⊥) → m ≡ length (frame kind o.space SEQUENCE o.size) → m ≡ length (open_heads kind o)
-  open_sum n e = by_size (some_heads n) e
+  pub open_sum : (o : Open) {m : ℕ} → list ≡ Some o → m ≡ length (frame kind o.space SEQUENCE o.size) → m ≡ length (open_heads kind list)
+  open_sum o e h = by_size (some_heads o e) h
 
   -- written
-  pub open_nothing : (out : List ℕ) (end : ℕ) → o.space ≡ 0 → end ≤ length out → Upto out end (open_heads kind o) end out
+  pub open_nothing : (out : List ℕ) (end : ℕ) → list ≡ None → end ≤ length out → Upto out end (open_heads kind list) end out
   open_nothing out end e h = by_upto (no_heads e) (upto_none out end h)
 
-  pub open_own : Opened kind o → (o.space ≡ 0 → ⊥) → kind_of o.space ≡ kind
-  open_own h n = h.own n
+  pub open_own : (o : Open) → Opened kind list → list ≡ Some o → (kind_of o.space ≡ kind) × (o.size ≤ list_most)
+  open_own o h e = let k : Opened kind (Some o) = rw e at h in (k.own, k.few)
 
-  pub open_room : {end : ℕ} → (o.space ≡ 0 → ⊥) → length (open_heads kind o) ≤ end → length (frame kind o.space SEQUENCE o.size) ≤ end
-  open_room n h = by_room (some_heads n) h
+  pub open_room : (o : Open) {end : ℕ} → list ≡ Some o → length (open_heads kind list) ≤ end → length (frame kind o.space SEQUENCE o.size) ≤ end
+  open_room o e h = by_room (some_heads o e) h
 
-  pub open_done : {out left : List ℕ} {end r : ℕ} → (o.space ≡ 0 → ⊥) → Upto out end (frame kind o.space SEQUENCE o.size) r left → Upto out end (open_heads kind o) r left
-  open_done n h = by_upto (some_heads n) h
+  pub open_done : (o : Open) {out left : List ℕ} {end r : ℕ} → list ≡ Some o → Upto out end (frame kind o.space SEQUENCE o.size) r left → Upto out end (open_heads kind list) r left
+  open_done o e h = by_upto (some_heads o e) h
 
   -- THOSE THAT STAND BEHIND A ROW; j says whether it joins the list
-  module _ (r : Row) {j : Bool} (q : j ≡ joins o r) where
-    none_behind : j ≡ true → closing kind o r ≡ []
+  module _ (r : Row) {j : Bool} (q : j ≡ joins list r) where
+    none_behind : j ≡ true → closing kind list r ≡ []
     unfolding closing
     none_behind e = rw (sym q ∙ e)
 
-    some_behind : j ≡ false → closing kind o r ≡ open_heads kind o
+    some_behind : j ≡ false → closing kind list r ≡ open_heads kind list
     unfolding closing
     some_behind e = rw (sym q ∙ e)
 
     -- counted
-    pub closing_zero : j ≡ true → 0 ≡ length (closing kind o r)
+    pub closing_zero : j ≡ true → 0 ≡ length (closing kind list r)
     closing_zero e = by_size (none_behind e) refl
 
-    pub closing_sum : {m : ℕ} → j ≡ false → m ≡ length (open_heads kind o) → m ≡ length (closing kind o r)
+    pub closing_sum : {m : ℕ} → j ≡ false → m ≡ length (open_heads kind list) → m ≡ length (closing kind list r)
     closing_sum e h = by_size (some_behind e) h
 
     -- written
-    pub closing_nothing : (out : List ℕ) (end : ℕ) → j ≡ true → end ≤ length out → Upto out end (closing kind o r) end out
+    pub closing_nothing : (out : List ℕ) (end : ℕ) → j ≡ true → end ≤ length out → Upto out end (closing kind list r) end out
     closing_nothing out end e h = by_upto (none_behind e) (upto_none out end h)
 
-    pub closing_room : {end : ℕ} → j ≡ false → length (closing kind o r) ≤ end → length (open_heads kind o) ≤ end
+    pub closing_room : {end : ℕ} → j ≡ false → length (closing kind list r) ≤ end → length (open_heads kind list) ≤ end
     closing_room e h = by_room (some_behind e) h
 
-    pub closing_done : {out left : List ℕ} {end s : ℕ} → j ≡ false → Upto out end (open_heads kind o) s left → Upto out end (closing kind o r) s left
+    pub closing_done : {out left : List ℕ} {end s : ℕ} → j ≡ false → Upto out end (open_heads kind list) s left → Upto out end (closing kind list r) s left
     closing_done e h = by_upto (some_behind e) h
 
 -- A ROW'S OWN OCTETS

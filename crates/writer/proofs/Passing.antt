@@ -14,6 +14,7 @@ use native.Mathlib.Omega.{arith}
 use lib.ListN.{length, drop, length-append}
 use lib.Dec.{eqb}
 use borrow.Author.Tests.{eqb-false}
+use Rattle.std.specs.Prelude.{Option, None}
 use Rattle.number.specs.Tests.{pick}
 use Rattle.number.specs.Halves.{bits}
 use Rattle.number.specs.declared.halves.Width.TheVariants.{Bits32}
@@ -28,7 +29,7 @@ use Rattle.table.proofs.Listing.{rows_more}
 use Rattle.table.proofs.laws.Spaces.{kind_as}
 use Rattle.table.proofs.laws.Tables.{table_true, first_sound, without}
 use Rattle.values.specs.Encode.{grouped}
-use Rattle.writer.specs.Families.{Table, Own, Opened, none, open_heads, closing, own, onward, families}
+use Rattle.writer.specs.Families.{Table, Own, Opened, size_in, open_heads, closing, own, onward, families}
 use Rattle.writer.specs.declared.families.Open.{Open}
 use Rattle.writer.specs.Writer.{families_most, row_most}
 use Rattle.writer.proofs.laws.Families.{Families, groups, open_of, tail, onto, Owned, no_first, size_tail, open_own, split, owned_turn, tail_turn, open_turn, own_few, groups_more, groups_few}
@@ -129,7 +130,7 @@ module _ {kind : ℕ} {t : List ℕ} (b : Table kind t) where
   owned k = go (below k (room t))
     where
       go : (k < room t) ⊎ (room t ≤ k) → Owned kind (passed t k)
-      go (inl h) = rw (passed_turn t k h) (owned_turn kind b.one (row_at t k) (row_at_lem k h).own (passed t (k + 1)))
+      go (inl h) = rw (passed_turn t k h) (owned_turn kind (row_at t k) (row_at_lem k h).own (passed t (k + 1)))
       go (inr h) = rw (passed_end t k h) no_first
 
   -- the families of the rows from row k on are no longer than those of all rows
@@ -137,7 +138,7 @@ module _ {kind : ℕ} {t : List ℕ} (b : Table kind t) where
   part_of zero h = rw (passed_all kind t) (le_refl _)
   part_of (suc k) h =
       let l : k < room t = omega arith in
-      let m = groups_more kind b.one (row_at t k) (row_at_lem k l) (passed t (k + 1)) (owned (k + 1)) in
+      let m = groups_more kind (row_at t k) (row_at_lem k l) (passed t (k + 1)) (owned (k + 1)) in
       let n = rw (passed_turn t k l) at (part_of k (omega arith)) in
       rw (← add-one k) (omega (arith, m, n))
 
@@ -146,7 +147,7 @@ module _ {kind : ℕ} {t : List ℕ} (b : Table kind t) where
   row_few zero k e = rw (passed_end t k (omega arith)) (omega arith)
   row_few (suc m) k e =
       let l : k < room t = omega arith in
-      rw (passed_turn t k l) (omega (arith, row_few m (k + 1) (omega arith), groups_few kind b.one (row_at t k) (row_at_lem k l) (passed t (k + 1)) (owned (k + 1))))
+      rw (passed_turn t k l) (omega (arith, row_few m (k + 1) (omega arith), groups_few kind (row_at t k) (row_at_lem k l) (passed t (k + 1)) (owned (k + 1))))
 
   -- HOW MANY OCTETS ALL FAMILIES HAVE
   pub all_few : length (families kind t) ≤ families_most
@@ -156,16 +157,16 @@ module _ {kind : ℕ} {t : List ℕ} (b : Table kind t) where
   pub tail_few : (k : ℕ) → k ≤ room t → (length (open_heads kind (open_of kind (passed t k))) + length (tail kind (passed t k)) ≤ length (families kind t)) × (length (tail kind (passed t k)) ≤ families_most)
   tail_few k h =
       let fs = passed t k in
-      omega (arith, rw (split kind b.one fs (owned k), length-append (open_heads kind (open_of kind fs)) (tail kind fs)) at (part_of k h), all_few)
+      omega (arith, rw (split kind fs (owned k), length-append (open_heads kind (open_of kind fs)) (tail kind fs)) at (part_of k h), all_few)
 
 -- THE OPEN LIST OF THE ROWS FROM ROW k ON
-pub record Passed (kind : ℕ) (t : List ℕ) (k : ℕ) (list : Open) : Type 0 where
+pub record Passed (kind : ℕ) (t : List ℕ) (k : ℕ) (list : Option Open) : Type 0 where
   pub upto : k ≤ room t
   pub same : list ≡ open_of kind (passed t k)
-  pub small : list.size ≤ families_most
+  pub small : size_in list ≤ families_most
 
 -- no row was passed
-pub pass_start : (kind : ℕ) (t : List ℕ) → Passed kind t (room t) none
+pub pass_start : (kind : ℕ) (t : List ℕ) → Passed kind t (room t) None
 unfolding open_of
 pass_start kind t = record { upto = omega arith; same = rw (passed_end t (room t) (omega arith)); small = omega arith }
 
@@ -174,7 +175,7 @@ pub start_tail : (kind : ℕ) (t : List ℕ) → tail kind (passed t (room t)) �
 unfolding tail
 start_tail kind t = rw (passed_end t (room t) (omega arith))
 
-module _ {kind : ℕ} {t : List ℕ} (b : Table kind t) {k : ℕ} {list : Open} (p : Passed kind t k list) where
+module _ {kind : ℕ} {t : List ℕ} (b : Table kind t) {k : ℕ} {list : Option Open} (p : Passed kind t k list) where
   -- what `close` asks of it
   pub pass_opened : Opened kind list
   pass_opened = record { own = rw (← p.same) at (open_own kind (passed t k) (owned b k)); few = omega (arith, p.small) }
@@ -183,7 +184,7 @@ module _ {kind : ℕ} {t : List ℕ} (b : Table kind t) {k : ℕ} {list : Open} 
   pub pass_end : k ≤ 0 → families kind t ≡ open_heads kind list ++ tail kind (passed t k)
   pass_end h =
       let e : k ≡ 0 = omega arith in
-      rw (passed_all kind t, p.same, e) (split kind b.one (passed t 0) (owned b 0))
+      rw (passed_all kind t, p.same, e) (split kind (passed t 0) (owned b 0))
 
   module _ {row : code.Row} (h : 0 < k) (e : row ≡ in_halves (row_at t (k - 1))) where
     -- the row is the one before
@@ -205,7 +206,7 @@ module _ {kind : ℕ} {t : List ℕ} (b : Table kind t) {k : ℕ} {list : Open} 
 
     -- it comes with its own octets, and the heads behind it
     pub tail_is : tail kind (passed t (k - 1)) ≡ own kind (seen row) ++ (closing kind list (seen row) ++ tail kind (passed t k))
-    tail_is = rw (turn_is, p.same, ← row_seen) (tail_turn kind b.one (row_at t (k - 1)) row_own.own (passed t k) (owned b k))
+    tail_is = rw (turn_is, p.same, ← row_seen) (tail_turn kind (row_at t (k - 1)) row_own.own (passed t k) (owned b k))
 
     -- for which there is room
     pub tail_fits : length (own kind (seen row)) + length (closing kind list (seen row)) + length (tail kind (passed t k)) ≤ length (families kind t)
@@ -216,8 +217,8 @@ module _ {kind : ℕ} {t : List ℕ} (b : Table kind t) {k : ℕ} {list : Open} 
         omega (arith, tail_few b (k - 1) (omega (arith, p.upto)), ap length tail_is, length-append s (u ++ v), length-append u v)
 
     -- the open list after it
-    pub pass_turn : {list' : Open} (n : ℕ) → n ≡ length (own kind (seen row)) → list' ≡ onward list (seen row) n → Passed kind t (k - 1) list'
-    pass_turn {list'} n q f = record { upto = omega (arith, p.upto); same = s; small = omega (arith, ap (λ (o : Open). o.size) s, size_tail kind (passed t (k - 1)), tail_few b (k - 1) (omega (arith, p.upto))) }
+    pub pass_turn : {list' : Option Open} (n : ℕ) → n ≡ length (own kind (seen row)) → list' ≡ onward list (seen row) n → Passed kind t (k - 1) list'
+    pass_turn {list'} n q f = record { upto = omega (arith, p.upto); same = s; small = omega (arith, ap size_in s, size_tail kind (passed t (k - 1)), tail_few b (k - 1) (omega (arith, p.upto))) }
       where
         s : list' ≡ open_of kind (passed t (k - 1))
-        s = f ∙ rw (q, turn_is, p.same, ← row_seen) (sym (open_turn kind b.one (row_at t (k - 1)) row_own.own (passed t k)))
+        s = f ∙ rw (q, turn_is, p.same, ← row_seen) (sym (open_turn kind (row_at t (k - 1)) row_own.own (passed t k)))

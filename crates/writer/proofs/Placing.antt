@@ -7,10 +7,11 @@ use Prim.Native.Nat.{ℕ, ◌+◌, ◌-◌, ◌≤◌, ◌<◌}
 use native.Mathlib.Nat.{add-zero}
 use native.Mathlib.Omega.{arith}
 use lib.ListN.{length, length-append}
+use Rattle.std.specs.Prelude.{Option, None}
 use Rattle.table.specs.Rows.{seen, in_halves, room, row_at}
 use Rattle.table.specs.declared.rows.Row as code
 use Rattle.der.proofs.laws.Writing.{length-written, written_none, written_before}
-use Rattle.writer.specs.Families.{Table, Upto, none, open_heads, closing, own, onward, families}
+use Rattle.writer.specs.Families.{Table, Upto, size_in, open_heads, closing, own, onward, families}
 use Rattle.writer.specs.declared.families.Open.{Open}
 use Rattle.writer.specs.Writer.{choice_most}
 use Rattle.writer.proofs.laws.Families.{tail}
@@ -40,20 +41,20 @@ module _ {out left : List ℕ} {end r : ℕ} {u : List ℕ} (a : Upto out end u 
 -- THE LOOP
 
 -- the rows from row k on have a list open, and what is behind its heads is written
-pub record Placed (kind : ℕ) (t out : List ℕ) (end k : ℕ) (list : Open) (at : ℕ) (left : List ℕ) : Type 0 where
+pub record Placed (kind : ℕ) (t out : List ℕ) (end k : ℕ) (list : Option Open) (at : ℕ) (left : List ℕ) : Type 0 where
   pub rows : Passed kind t k list
   pub done : Upto out end (tail kind (passed t k)) at left
   pub fits : at ≤ length left
 
 -- the run keeps its length
-pub place_same : {kind : ℕ} {t out : List ℕ} {end k : ℕ} {list : Open} {at : ℕ} {left : List ℕ} (left' : List ℕ) → Placed kind t out end k list at left → length left' ≡ length left → length left' ≡ length out
+pub place_same : {kind : ℕ} {t out : List ℕ} {end k : ℕ} {list : Option Open} {at : ℕ} {left : List ℕ} (left' : List ℕ) → Placed kind t out end k list at left → length left' ≡ length left → length left' ≡ length out
 place_same left' v e = e ∙ upto-length v.done
 
 -- before it
-pub place_start : (kind : ℕ) (t out : List ℕ) (end : ℕ) → end ≤ length out → Placed kind t out end (room t) none end out
+pub place_start : (kind : ℕ) (t out : List ℕ) (end : ℕ) → end ≤ length out → Placed kind t out end (room t) None end out
 place_start kind t out end h = record { rows = pass_start kind t; done = rw (start_tail kind t) (upto_none out end h); fits = h }
 
-module _ {kind : ℕ} {t : List ℕ} (b : Table kind t) {out left : List ℕ} {end k at : ℕ} {list : Open} (f : length (families kind t) ≤ end) (z : end ≤ length out) (v : Placed kind t out end k list at left) where
+module _ {kind : ℕ} {t : List ℕ} (b : Table kind t) {out left : List ℕ} {end k at : ℕ} {list : Option Open} (f : length (families kind t) ≤ end) (z : end ≤ length out) (v : Placed kind t out end k list at left) where
   -- after it there is room for the last heads
   pub place_last : k ≤ 0 → length (open_heads kind list) ≤ at
   place_last h =
@@ -88,13 +89,13 @@ module _ {kind : ℕ} {t : List ℕ} (b : Table kind t) {out left : List ℕ} {e
 
       module _ {start : ℕ} {left'' : List ℕ} (d : Upto left' behind (own kind (seen row)) start left'') where
         -- which are few
-        pub place_few : list.size + (behind - start) ≤ choice_most
+        pub place_few : size_in list + (behind - start) ≤ choice_most
         place_few =
             let p = d.place in
             omega (arith, v.rows.small, pass_own_few b v.rows h e)
 
         -- and so there is a row more
-        pub place_turn : {list' : Open} → list' ≡ onward list (seen row) (behind - start) → Placed kind t out end (k - 1) list' start left''
+        pub place_turn : {list' : Option Open} → list' ≡ onward list (seen row) (behind - start) → Placed kind t out end (k - 1) list' start left''
         place_turn g =
             let p = c.place in
             let q = d.place in

@@ -17,41 +17,40 @@ use table::rows::Row;
 use table::{rows, spaces, tables};
 use values::limits;
 
-// The rows of one space that were passed last: their space, or 0 where there are none, and the octets of their elements.
+// The rows of one space that were passed last: their space, and how many octets their elements have.
+// No list is open where there are none.
 #[derive(Clone, Copy)]
 pub struct Open {
     pub space: u64,
     pub size: usize,
 }
 
-// There is none.
-const NONE: Open = Open { space: 0, size: 0 };
-
 // Whether a row joins the open list.
-fn joins(list: Open, row: Row) -> bool
+fn joins(list: Option<Open>, row: Row) -> bool
     ensures { result ≡ spec.joins list (seen row) }
 {
-    row.inherit != 1 && row.space == list.space
+    match list {
+        Some(open) => row.inherit != 1 && row.space == open.space,
+        None => false,
+    }
 }
 
 // The open list with a row of n octets in front.
-fn onward(list: Open, row: Row, n: usize) -> Open
-    requires { list.size + n ≤ reply.choice_most }
+fn onward(list: Option<Open>, row: Row, n: usize) -> Option<Open>
+    requires { spec.size_in list + n ≤ reply.choice_most }
     ensures { result ≡ spec.onward list (seen row) n }
 {
     if row.inherit == 1 {
-        return NONE;
+        return None;
     }
-    if row.space == list.space {
-        return Open {
-            space: row.space,
-            size: list.size + n,
-        };
-    }
-    Open {
+    let behind = match list {
+        Some(open) if row.space == open.space => open.size,
+        _ => 0,
+    };
+    Some(Open {
         space: row.space,
-        size: n,
-    }
+        size: behind + n,
+    })
 }
 
 // How many octets stand in a family before the n octets of its choice's contents.
@@ -63,19 +62,19 @@ fn frame_size(kind: u64, space: u64, n: usize) -> usize
 }
 
 // How many octets the heads of the open list have; 0 where there is none.
-fn open_size(kind: u64, list: Open) -> usize
-    requires { list.size ≤ reply.list_most }
+fn open_size(kind: u64, list: Option<Open>) -> usize
+    requires { spec.size_in list ≤ reply.list_most }
     ensures { (result ≡ length (spec.open_heads kind list)) × (result ≤ reply.heads_most) }
 {
-    if list.space == 0 {
-        return 0;
+    match list {
+        Some(open) => frame_size(kind, open.space, open.size),
+        None => 0,
     }
-    frame_size(kind, list.space, list.size)
 }
 
 // How many octets the heads have that stand behind a row.
-fn closing_size(kind: u64, list: Open, row: Row) -> usize
-    requires { list.size ≤ reply.list_most }
+fn closing_size(kind: u64, list: Option<Open>, row: Row) -> usize
+    requires { spec.size_in list ≤ reply.list_most }
     ensures { (result ≡ length (spec.closing kind list (seen row))) × (result ≤ reply.heads_most) }
 {
     if joins(list, row) {
@@ -100,7 +99,7 @@ fn size(kind: u64, table: &[u64]) -> usize
     requires { spec.Table kind table.now }
     ensures { (result ≡ length (spec.families kind table.now)) × (result ≤ reply.families_most) }
 {
-    let mut list = NONE;
+    let mut list = None;
     let mut size: usize = 0;
     for k in (0..table.len() / rows::ROW).rev() {
         let row = rows::get(table, k);
@@ -125,18 +124,18 @@ fn put_frame(out: &mut [u8], end: usize, kind: u64, space: u64, tag: u8, n: usiz
 }
 
 // Writes the heads of the open list up to a place. Returns where they start.
-fn close(out: &mut [u8], end: usize, kind: u64, list: Open) -> usize
+fn close(out: &mut [u8], end: usize, kind: u64, list: Option<Open>) -> usize
     requires { spec.Opened kind list × (length (spec.open_heads kind list) ≤ end) × (end ≤ length out.old) }
     ensures { spec.Upto out.old end (spec.open_heads kind list) result out.new }
 {
-    if list.space == 0 {
-        return end;
+    match list {
+        Some(open) => put_frame(out, end, kind, open.space, tags::SEQUENCE, open.size),
+        None => end,
     }
-    put_frame(out, end, kind, list.space, tags::SEQUENCE, list.size)
 }
 
 // Writes the heads that stand behind a row up to a place. Returns where they start.
-fn put_closing(out: &mut [u8], end: usize, kind: u64, list: Open, row: Row) -> usize
+fn put_closing(out: &mut [u8], end: usize, kind: u64, list: Option<Open>, row: Row) -> usize
     requires { spec.Opened kind list × (length (spec.closing kind list (seen row)) ≤ end) × (end ≤ length out.old) }
     ensures { spec.Upto out.old end (spec.closing kind list (seen row)) result out.new }
 {
@@ -172,7 +171,7 @@ fn put(kind: u64, table: &[u64], out: &mut [u8], end: usize) -> usize
     requires { spec.Table kind table.now × (length (spec.families kind table.now) ≤ end) × (end ≤ length out.old) }
     ensures { spec.Upto out.old end (spec.families kind table.now) result out.new }
 {
-    let mut list = NONE;
+    let mut list = None;
     let mut at = end;
     for k in (0..table.len() / rows::ROW).rev() {
         let row = rows::get(table, k); // the next one towards the first

@@ -12,6 +12,7 @@ use native.Mathlib.Omega.{arith}
 use lib.ListN.{length, length-append}
 use lib.Dec.{eqb}
 use borrow.Author.Tests.{ne_eqb, eqb-true, eqb-false}
+use Rattle.std.specs.Prelude.{Option, Some, None, IfSome}
 use Rattle.number.specs.Tests.{pick}
 use Rattle.number.specs.Halves.{bits}
 use Rattle.table.specs.Spaces.{mixed_kind, ip_kind, kind_of, width_of}
@@ -29,7 +30,7 @@ use Rattle.values.specs.declared.elements.Space.TheVariants as space
 use Rattle.values.proofs.laws.Statements.{bits_in, Fits}
 use Rattle.values.proofs.laws.Elements as elements
 use Rattle.writer.specs.Writer.{row_most, heads_most, element_size}
-use Rattle.writer.specs.Families.{frame, none, open_heads, joins, closing, own, onward, Own}
+use Rattle.writer.specs.Families.{frame, size_in, open_heads, joins, closing, own, onward, Own}
 use Rattle.writer.specs.declared.families.Open.{Open}
 use Rattle.writer.proofs.laws.Groups.{head_more, heads_few, heads_more, group_is}
 
@@ -44,12 +45,12 @@ abbrev pub groups : ℕ → Families → List ℕ
 groups kind fs = all (group_octets kind) fs
 
 -- the open list in front of families
-abbrev open_by : ℕ → ℕ → Choice → Open
-open_by kind a inherit = none
-open_by kind a (listed xs) = record { space = a; size = length (elements_of kind a xs) }
+abbrev open_by : ℕ → ℕ → Choice → Option Open
+open_by kind a inherit = None
+open_by kind a (listed xs) = Some (record { space = a; size = length (elements_of kind a xs) })
 
-unfoldable pub open_of : ℕ → Families → Open
-open_of kind [] = none
+unfoldable pub open_of : ℕ → Families → Option Open
+open_of kind [] = None
 open_of kind (f ∷ fs) = open_by kind f.0 f.1
 
 -- what is written behind its heads
@@ -82,24 +83,24 @@ listed_is kind a xs =
     group_is kind a (listed xs) ∙ rw (element_size_lem SEQUENCE c, element_is SEQUENCE c, append_assoc (group_heads kind a (element_size (length c))) (head_octets SEQUENCE (length c)) c)
 
 -- the open list has no more octets than there are behind its heads
-pub size_tail : (kind : ℕ) (fs : Families) → (open_of kind fs).size ≤ length (tail kind fs)
+pub size_tail : (kind : ℕ) (fs : Families) → size_in (open_of kind fs) ≤ length (tail kind fs)
 unfolding open_of tail
 size_tail kind [] = omega arith
 size_tail kind (f ∷ fs) = go f.0 f.1
   where
-    go : (a : ℕ) (c : Choice) → (open_by kind a c).size ≤ length (tail_by kind a c fs)
+    go : (a : ℕ) (c : Choice) → size_in (open_by kind a c) ≤ length (tail_by kind a c fs)
     go a inherit = omega arith
     go a (listed xs) = omega (arith, length-append (elements_of kind a xs) (groups kind fs))
 
 -- and its space, if there is one, is of the kind
-pub open_own : (kind : ℕ) (fs : Families) → Owned kind fs → ((open_of kind fs).space ≡ 0 → ⊥) → kind_of (open_of kind fs).space ≡ kind
+pub open_own : (kind : ℕ) (fs : Families) → Owned kind fs → IfSome (open_of kind fs) (λ o. kind_of o.space ≡ kind)
 unfolding open_of
-open_own kind [] o n = absurd (n refl)
-open_own kind (f ∷ fs) (first e) n = go f.0 f.1 e n
+open_own kind [] u = tt
+open_own kind (f ∷ fs) (first e) = go f.0 f.1 e
   where
-    go : (a : ℕ) (c : Choice) → kind_of a ≡ kind → ((open_by kind a c).space ≡ 0 → ⊥) → kind_of (open_by kind a c).space ≡ kind
-    go a inherit e n = absurd (n refl)
-    go a (listed xs) e n = e
+    go : (a : ℕ) (c : Choice) → kind_of a ≡ kind → IfSome (open_by kind a c) (λ o. kind_of o.space ≡ kind)
+    go a inherit e = tt
+    go a (listed xs) e = e
 
 -- HEADS
 
@@ -112,32 +113,24 @@ frame_size kind a tag n = omega (arith, length-append (group_heads kind a (eleme
 pub frame_few : (kind a tag n : ℕ) → length (frame kind a tag n) ≤ heads_most
 frame_few kind a tag n = omega (arith, frame_size kind a tag n, heads_few kind a (element_size n), head_few n)
 
-pub open_few : (kind : ℕ) (o : Open) → length (open_heads kind o) ≤ heads_most
+pub open_few : (kind : ℕ) (list : Option Open) → length (open_heads kind list) ≤ heads_most
 unfolding open_heads
-open_few kind o = go (eqb o.space 0)
-  where
-    go : (b : Bool) → length (pick b [] (frame kind o.space SEQUENCE o.size)) ≤ heads_most
-    go true = omega arith
-    go false = frame_few kind o.space SEQUENCE o.size
+open_few kind None = omega arith
+open_few kind (Some o) = frame_few kind o.space SEQUENCE o.size
 
 -- a longer list has no shorter ones
-open_more : (kind a m n : ℕ) → m ≤ n → length (open_heads kind (record { space = a; size = m })) ≤ length (open_heads kind (record { space = a; size = n }))
-unfolding open_heads
-open_more kind a m n h = go (eqb a 0)
-  where
-    go : (b : Bool) → length (pick b [] (frame kind a SEQUENCE m)) ≤ length (pick b [] (frame kind a SEQUENCE n))
-    go true = omega arith
-    go false =
-        let k = head_more m n h in
-        let l : element_size m ≤ element_size n = omega arith in
-        omega (arith, frame_size kind a SEQUENCE m, frame_size kind a SEQUENCE n, heads_more kind a (element_size m) (element_size n) l)
+open_more : (kind a m n : ℕ) → m ≤ n → length (frame kind a SEQUENCE m) ≤ length (frame kind a SEQUENCE n)
+open_more kind a m n h =
+    let k = head_more m n h in
+    let l : element_size m ≤ element_size n = omega arith in
+    omega (arith, frame_size kind a SEQUENCE m, frame_size kind a SEQUENCE n, heads_more kind a (element_size m) (element_size n) l)
 
 -- an inherit row's family is nothing but heads
 pub inherit_is : (kind a : ℕ) → group_octets kind (a, inherit) ≡ frame kind a NULL 0
 unfolding frame
 inherit_is kind a = group_is kind a inherit ∙ rw (element_size_lem NULL [], element_is NULL [], append-nil)
 
-module _ (kind : ℕ) (one : kind ≡ mixed_kind → ⊥) where
+module _ (kind : ℕ) where
   -- THE HEADS OF THE OPEN LIST AND WHAT IS BEHIND THEM ARE ALL FAMILIES
   pub split : (fs : Families) → Owned kind fs → groups kind fs ≡ open_heads kind (open_of kind fs) ++ tail kind fs
   unfolding open_of tail open_heads
@@ -148,7 +141,7 @@ module _ (kind : ℕ) (one : kind ≡ mixed_kind → ⊥) where
       go a inherit e = refl
       go a (listed xs) e =
           let c = elements_of kind a xs in
-          rw (listed_is kind a xs, ne_eqb a 0 (not_zero kind a one e), append_assoc (frame kind a SEQUENCE (length c)) c (groups kind fs))
+          rw (listed_is kind a xs, append_assoc (frame kind a SEQUENCE (length c)) c (groups kind fs))
 
   module _ (r : Row) (e : kind_of r.space ≡ kind) where
     -- a row in front makes the first family one of its space
@@ -181,14 +174,14 @@ module _ (kind : ℕ) (one : kind ≡ mixed_kind → ⊥) where
 
         meets : eqb r.inherit 1 ≡ false → (b : ℕ) (c : Choice) (gs : Families) → kind_of b ≡ kind → (d : Bool) → eqb r.space b ≡ d
             → tail kind (onto r ((b, c) ∷ gs)) ≡ own kind r ++ (closing kind (open_of kind ((b, c) ∷ gs)) r ++ tail kind ((b, c) ∷ gs))
-        meets h b inherit gs u d q = rw (h, ne_eqb r.space 0 (not_zero kind r.space one e)) (alone ((b, inherit) ∷ gs))
+        meets h b inherit gs u d q = rw h (alone ((b, inherit) ∷ gs))
         meets h b (listed rs) gs u true q =
             rw (h, q) (append_assoc (element_octets (space_for kind r.space) (r.low, r.high)) (elements_of kind r.space rs) (groups kind gs) ∙ ap (λ (z : ℕ). row_octets kind r ++ (elements_of kind z rs ++ groups kind gs)) (eqb-true r.space b q))
         meets h b (listed rs) gs u false q = rw (h, q) (alone ((b, listed rs) ∷ gs) ∙ rw (split ((b, listed rs) ∷ gs) (first u)))
 
         go : (d : Bool) → eqb r.inherit 1 ≡ d → (fs : Families) → Owned kind fs → tail kind (onto r fs) ≡ own kind r ++ (closing kind (open_of kind fs) r ++ tail kind fs)
         go true h fs o = rw (h, split fs o)
-        go false h [] o = rw (h, ne_eqb r.space 0 (not_zero kind r.space one e)) (alone [])
+        go false h [] o = rw h (alone [])
         go false h (f ∷ fs) (first u) = meets h f.0 f.1 fs u (eqb r.space f.0) refl
 
     -- and the open list
@@ -197,14 +190,14 @@ module _ (kind : ℕ) (one : kind ≡ mixed_kind → ⊥) where
     open_turn fs = go (eqb r.inherit 1) refl fs
       where
         -- its size
-        sized : (n m : ℕ) → n ≡ m → ◌≡◌ {A = Open} (record { space = r.space; size = n }) (record { space = r.space; size = m })
-        sized n m q = ap (λ (k : ℕ). record { space = r.space; size = k }) q
+        sized : (n m : ℕ) → n ≡ m → ◌≡◌ {A = Option Open} (Some (record { space = r.space; size = n })) (Some (record { space = r.space; size = m }))
+        sized n m q = ap (λ (k : ℕ). Some (record { space = r.space; size = k })) q
 
         alone : length (elements_of kind r.space ((r.low, r.high) ∷ [])) ≡ length (row_octets kind r)
         alone = rw append-nil
 
         meets : eqb r.inherit 1 ≡ false → (b : ℕ) (c : Choice) (gs : Families) → (d : Bool) → eqb r.space b ≡ d → open_of kind (onto r ((b, c) ∷ gs)) ≡ onward (open_of kind ((b, c) ∷ gs)) r (length (own kind r))
-        meets h b inherit gs d q = rw (h, ne_eqb r.space 0 (not_zero kind r.space one e)) (sized _ _ alone)
+        meets h b inherit gs d q = rw h (sized _ _ alone)
         meets h b (listed rs) gs true q =
             let k : length (elements_of kind r.space rs) ≡ length (elements_of kind b rs) = ap (λ (z : ℕ). length (elements_of kind z rs)) (eqb-true r.space b q) in
             rw (h, q) (sized _ _ (omega (arith, length-append (element_octets (space_for kind r.space) (r.low, r.high)) (elements_of kind r.space rs))))
@@ -212,7 +205,7 @@ module _ (kind : ℕ) (one : kind ≡ mixed_kind → ⊥) where
 
         go : (d : Bool) → eqb r.inherit 1 ≡ d → (fs : Families) → open_of kind (onto r fs) ≡ onward (open_of kind fs) r (length (own kind r))
         go true h fs = rw h
-        go false h [] = rw (h, ne_eqb r.space 0 (not_zero kind r.space one e)) (sized _ _ alone)
+        go false h [] = rw h (sized _ _ alone)
         go false h (f ∷ fs) = meets h f.0 f.1 fs (eqb r.space f.0) refl
 
 -- HOW MANY OCTETS
@@ -239,34 +232,35 @@ own_few kind r o = go (eqb r.inherit 1) refl
         elements.element_size_lem (space_for kind r.space) (r.low, r.high) (lists (eqb kind ip_kind) (eqb r.space as_numbers) l.order l.fits)
 
 -- the heads behind a row are those of the open list, or none
-closing_few : (kind : ℕ) (o : Open) (r : Row) → length (closing kind o r) ≤ length (open_heads kind o)
+closing_few : (kind : ℕ) (list : Option Open) (r : Row) → length (closing kind list r) ≤ length (open_heads kind list)
 unfolding closing
-closing_few kind o r = go (joins o r)
+closing_few kind list r = go (joins list r)
   where
-    go : (d : Bool) → length (pick d [] (open_heads kind o)) ≤ length (open_heads kind o)
+    go : (d : Bool) → length (pick d [] (open_heads kind list)) ≤ length (open_heads kind list)
     go true = omega arith
     go false = omega arith
 
 -- none only where the row joins the list, whose heads are still to come
-heads_kept : (kind : ℕ) (o : Open) (r : Row) (n : ℕ) → length (open_heads kind o) ≤ length (open_heads kind (onward o r n)) + length (closing kind o r)
-unfolding closing joins onward
-heads_kept kind o r n = go (eqb r.inherit 1) refl (eqb r.space o.space) refl
+heads_kept : (kind : ℕ) (list : Option Open) (r : Row) (n : ℕ) → length (open_heads kind list) ≤ length (open_heads kind (onward list r n)) + length (closing kind list r)
+unfolding closing joins onward open_heads
+heads_kept kind None r n = omega arith
+heads_kept kind (Some o) r n = go (eqb r.inherit 1) refl (eqb r.space o.space) refl
   where
-    go : (d : Bool) → eqb r.inherit 1 ≡ d → (c : Bool) → eqb r.space o.space ≡ c → length (open_heads kind o) ≤ length (open_heads kind (onward o r n)) + length (closing kind o r)
+    go : (d : Bool) → eqb r.inherit 1 ≡ d → (c : Bool) → eqb r.space o.space ≡ c → length (open_heads kind (Some o)) ≤ length (open_heads kind (onward (Some o) r n)) + length (closing kind (Some o) r)
     go true p c q = rw p (omega arith)
     go false p true q = rw (p, q, eqb-true r.space o.space q) (omega (arith, open_more kind o.space o.size (o.size + n) (omega arith)))
     go false p false q = rw (p, q) (omega arith)
 
-module _ (kind : ℕ) (one : kind ≡ mixed_kind → ⊥) (r : Row) (o : Own kind r) (fs : Families) (u : Owned kind fs) where
+module _ (kind : ℕ) (r : Row) (o : Own kind r) (fs : Families) (u : Owned kind fs) where
   -- families with a row more, by the octets of their parts
   parts : length (groups kind (onto r fs)) ≡ length (open_heads kind (onward (open_of kind fs) r (length (own kind r)))) + length (own kind r) + length (closing kind (open_of kind fs) r) + length (tail kind fs)
   parts =
-      rw (split kind one (onto r fs) (owned_turn kind one r o.own fs), tail_turn kind one r o.own fs u, open_turn kind one r o.own fs)
+      rw (split kind (onto r fs) (owned_turn kind r o.own fs), tail_turn kind r o.own fs u, open_turn kind r o.own fs)
       (simp length-append (omega arith))
 
   -- and those without it
   whole_is : length (groups kind fs) ≡ length (open_heads kind (open_of kind fs)) + length (tail kind fs)
-  whole_is = rw (split kind one fs u) (length-append (open_heads kind (open_of kind fs)) (tail kind fs))
+  whole_is = rw (split kind fs u) (length-append (open_heads kind (open_of kind fs)) (tail kind fs))
 
   -- they are longer
   pub groups_more : length (groups kind fs) ≤ length (groups kind (onto r fs))

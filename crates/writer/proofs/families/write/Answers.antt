@@ -16,4 +16,4 @@ pub returns-then-rowless : goal.returns-then-rowless
 returns-then-rowless c = search (reply_rowless, not-false, rules)
 
 pub returns : goal.returns
-returns c = search (reply_value, not-false, rules)
+returns c = search (reply_value, rules)
