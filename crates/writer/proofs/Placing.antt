@@ -44,15 +44,10 @@ module _ {out left : List ℕ} {end r : ℕ} {u : List ℕ} (a : Upto out end u 
 pub record Placed (kind : ℕ) (t out : List ℕ) (end k : ℕ) (list : Option Open) (at : ℕ) (left : List ℕ) : Type 0 where
   pub rows : Passed kind t k list
   pub done : Upto out end (tail kind (passed t k)) at left
-  pub fits : at ≤ length left
-
--- the run keeps its length
-pub place_same : {kind : ℕ} {t out : List ℕ} {end k : ℕ} {list : Option Open} {at : ℕ} {left : List ℕ} (left' : List ℕ) → Placed kind t out end k list at left → length left' ≡ length left → length left' ≡ length out
-place_same left' v e = e ∙ upto-length v.done
 
 -- before it
 pub place_start : (kind : ℕ) (t out : List ℕ) (end : ℕ) → end ≤ length out → Placed kind t out end (room t) None end out
-place_start kind t out end h = record { rows = pass_start kind t; done = rw (start_tail kind t) (upto_none out end h); fits = h }
+place_start kind t out end h = record { rows = pass_start kind t; done = rw (start_tail kind t) (upto_none out end h) }
 
 module _ {kind : ℕ} {t : List ℕ} (b : Table kind t) {out left : List ℕ} {end k at : ℕ} {list : Option Open} (f : length (families kind t) ≤ end) (z : end ≤ length out) (v : Placed kind t out end k list at left) where
   -- after it there is room for the last heads
@@ -81,12 +76,6 @@ module _ {kind : ℕ} {t : List ℕ} (b : Table kind t) {out left : List ℕ} {e
           let q = c.place in
           omega (arith, tail_fits b v.rows h e)
 
-      pub place_behind : behind ≤ length left'
-      place_behind =
-          let q = c.place in
-          let i = v.fits in
-          omega (arith, upto-length c)
-
       module _ {start : ℕ} {left'' : List ℕ} (d : Upto left' behind (own kind (seen row)) start left'') where
         -- which are few
         pub place_few : size_in list + (behind - start) ≤ choice_most
@@ -99,9 +88,7 @@ module _ {kind : ℕ} {t : List ℕ} (b : Table kind t) {out left : List ℕ} {e
         place_turn g =
             let p = c.place in
             let q = d.place in
-            let i = v.fits in
             record {
               rows = pass_turn b v.rows h e (behind - start) (omega arith) g;
               done = rw (tail_is b v.rows h e) (upto_on (upto_on v.done z c) z d);
-              fits = omega (arith, upto-length c, upto-length d);
             }

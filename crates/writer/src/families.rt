@@ -110,77 +110,90 @@ fn size(kind: u64, table: &[u64]) -> usize
     size + open_size(kind, list)
 }
 
-// Writes what stands in a family before the n octets of its choice's contents, up to a place. Returns where it starts.
-fn put_frame(out: &mut [u8], end: usize, kind: u64, space: u64, tag: u8, n: usize) -> usize
-    requires { (kind_of space ≡ kind) × (n ≤ reply.list_most) × (length (spec.frame kind space tag n) ≤ end) × (end ≤ length out.old) }
-    ensures { spec.Upto out.old end (spec.frame kind space tag n) result out.new }
-{
-    let choice = end - heads::head_size(n);
-    heads::put_head(out, choice, tag, n);
-    let size = element_size(n);
-    let start = choice - heads_size(kind, space, size);
-    put_heads(out, start, kind, space, size);
-    start
+// A run of octets that is written from the last to the first: what was written starts at a place in it.
+// Each method writes a part in front of that, for which it asks room.
+#[derive(Drop)]
+struct Backwards<'a> {
+    out: &'a mut [u8],
+    start: usize,
+    ghost inside: { start ≤ length out.now },
 }
 
-// Writes the heads of the open list up to a place. Returns where they start.
-fn close(out: &mut [u8], end: usize, kind: u64, list: Option<Open>) -> usize
-    requires { spec.Opened kind list × (length (spec.open_heads kind list) ≤ end) × (end ≤ length out.old) }
-    ensures { spec.Upto out.old end (spec.open_heads kind list) result out.new }
-{
-    match list {
-        Some(open) => put_frame(out, end, kind, open.space, tags::SEQUENCE, open.size),
-        None => end,
+impl<'a> Backwards<'a> {
+    // What stands in a family before the n octets of its choice's contents.
+    fn frame(&mut self, kind: u64, space: u64, tag: u8, n: usize)
+        requires { (kind_of space ≡ kind) × (n ≤ reply.list_most) × (length (spec.frame kind space tag n) ≤ self.old.start) }
+        ensures same_run { self.new.out.ghost_name ≡ self.old.out.ghost_name }
+        ensures written { spec.Upto self.old.out.now self.old.start (spec.frame kind space tag n) self.new.start self.new.out.now }
+    {
+        self.start -= heads::head_size(n);
+        heads::put_head(self.out, self.start, tag, n);
+        let size = element_size(n);
+        self.start -= heads_size(kind, space, size);
+        put_heads(self.out, self.start, kind, space, size);
     }
-}
 
-// Writes the heads that stand behind a row up to a place. Returns where they start.
-fn put_closing(out: &mut [u8], end: usize, kind: u64, list: Option<Open>, row: Row) -> usize
-    requires { spec.Opened kind list × (length (spec.closing kind list (seen row)) ≤ end) × (end ≤ length out.old) }
-    ensures { spec.Upto out.old end (spec.closing kind list (seen row)) result out.new }
-{
-    if joins(list, row) {
-        return end;
+    // The heads of the open list.
+    fn close(&mut self, kind: u64, list: Option<Open>)
+        requires { spec.Opened kind list × (length (spec.open_heads kind list) ≤ self.old.start) }
+        ensures same_run { self.new.out.ghost_name ≡ self.old.out.ghost_name }
+        ensures written { spec.Upto self.old.out.now self.old.start (spec.open_heads kind list) self.new.start self.new.out.now }
+    {
+        if let Some(open) = list {
+            self.frame(kind, open.space, tags::SEQUENCE, open.size);
+        }
     }
-    close(out, end, kind, list)
-}
 
-// Writes a row's element up to a place. Returns where it starts.
-fn put_listed(out: &mut [u8], end: usize, kind: u64, row: Row) -> usize
-    requires { Lists kind (seen row) × (length (row_octets kind (seen row)) ≤ end) × (end ≤ length out.old) }
-    ensures { spec.Upto out.old end (row_octets kind (seen row)) result out.new }
-{
-    let start = end - row_size(kind, row);
-    put_row(out, start, kind, row);
-    start
-}
-
-// Writes a row's own octets up to a place. Returns where they start.
-fn put_own(out: &mut [u8], end: usize, kind: u64, row: Row) -> usize
-    requires { spec.Own kind (seen row) × (length (spec.own kind (seen row)) ≤ end) × (end ≤ length out.old) }
-    ensures { spec.Upto out.old end (spec.own kind (seen row)) result out.new }
-{
-    if row.inherit == 1 {
-        return put_frame(out, end, kind, row.space, tags::NULL, 0);
+    // The heads that stand behind a row.
+    fn closing(&mut self, kind: u64, list: Option<Open>, row: Row)
+        requires { spec.Opened kind list × (length (spec.closing kind list (seen row)) ≤ self.old.start) }
+        ensures same_run { self.new.out.ghost_name ≡ self.old.out.ghost_name }
+        ensures written { spec.Upto self.old.out.now self.old.start (spec.closing kind list (seen row)) self.new.start self.new.out.now }
+    {
+        if !joins(list, row) {
+            self.close(kind, list);
+        }
     }
-    put_listed(out, end, kind, row)
-}
 
-// Writes the families of a table up to a place, from the last to the first. Returns where they start.
-fn put(kind: u64, table: &[u64], out: &mut [u8], end: usize) -> usize
-    requires { spec.Table kind table.now × (length (spec.families kind table.now) ≤ end) × (end ≤ length out.old) }
-    ensures { spec.Upto out.old end (spec.families kind table.now) result out.new }
-{
-    let mut list = None;
-    let mut at = end;
-    for k in (0..table.len() / rows::ROW).rev() {
-        let row = rows::get(table, k); // the next one towards the first
-        let behind = put_closing(out, at, kind, list, row);
-        let start = put_own(out, behind, kind, row);
-        list = onward(list, row, behind - start);
-        at = start;
+    // A row's element.
+    fn listed(&mut self, kind: u64, row: Row)
+        requires { Lists kind (seen row) × (length (row_octets kind (seen row)) ≤ self.old.start) }
+        ensures same_run { self.new.out.ghost_name ≡ self.old.out.ghost_name }
+        ensures written { spec.Upto self.old.out.now self.old.start (row_octets kind (seen row)) self.new.start self.new.out.now }
+    {
+        self.start -= row_size(kind, row);
+        put_row(self.out, self.start, kind, row);
     }
-    close(out, at, kind, list)
+
+    // A row's own octets.
+    fn own(&mut self, kind: u64, row: Row)
+        requires { spec.Own kind (seen row) × (length (spec.own kind (seen row)) ≤ self.old.start) }
+        ensures same_run { self.new.out.ghost_name ≡ self.old.out.ghost_name }
+        ensures written { spec.Upto self.old.out.now self.old.start (spec.own kind (seen row)) self.new.start self.new.out.now }
+    {
+        if row.inherit == 1 {
+            self.frame(kind, row.space, tags::NULL, 0);
+        } else {
+            self.listed(kind, row);
+        }
+    }
+
+    // The families of a table.
+    fn families(&mut self, kind: u64, table: &[u64])
+        requires { spec.Table kind table.now × (length (spec.families kind table.now) ≤ self.old.start) }
+        ensures same_run { self.new.out.ghost_name ≡ self.old.out.ghost_name }
+        ensures written { spec.Upto self.old.out.now self.old.start (spec.families kind table.now) self.new.start self.new.out.now }
+    {
+        let mut list = None;
+        for k in (0..table.len() / rows::ROW).rev() {
+            let row = rows::get(table, k); // the next one towards the first
+            self.closing(kind, list, row);
+            let end = self.start;
+            self.own(kind, row);
+            list = onward(list, row, end - self.start);
+        }
+        self.close(kind, list);
+    }
 }
 
 // Whether a table lacks the row that its kind asks for: "an AS table at least one".
@@ -201,7 +214,8 @@ fn put_value(kind: u64, table: &[u64], out: &mut [u8]) -> Writing
         return refuse(Refusal::OutputShort, 0);
     }
     heads::put_head(out, 0, tags::SEQUENCE, inner);
-    put(kind, table, out, all);
+    let mut run = Backwards { out, start: all };
+    run.families(kind, table);
     Ok(all)
 }
 

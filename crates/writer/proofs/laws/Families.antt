@@ -11,7 +11,7 @@ use Prim.Native.Nat.{ℕ, ◌+◌, ◌^◌, ◌≤◌, ◌<◌}
 use native.Mathlib.Omega.{arith}
 use lib.ListN.{length, length-append}
 use lib.Dec.{eqb}
-use borrow.Author.Tests.{ne_eqb, eqb-true, eqb-false}
+use borrow.Author.Tests.{eqb-true, eqb-false}
 use Rattle.std.specs.Prelude.{Option, Some, None, IfSome}
 use Rattle.number.specs.Tests.{pick}
 use Rattle.number.specs.Halves.{bits}

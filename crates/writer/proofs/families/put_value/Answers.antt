@@ -7,4 +7,6 @@ pub returns-then-out-all : goal.returns-then-out-all
 returns-then-out-all c = search (value_short, rules)
 
 pub returns : goal.returns
-returns c = value_done c.args.kind c.args.table.now c.args.out.now c.size-inner.ensures.0 c.element_size-all.ensures c.put.result c.if-out-all.false c.size-inner.ensures.1 c.put_head.ensures c.put.ensures
+returns c =
+    let e = value_done c.args.kind c.args.table.now c.args.out.now c.size-inner.ensures.0 c.element_size-all.ensures c.families.new.self.start c.if-out-all.false c.size-inner.ensures.1 c.put_head.ensures c.families.ensures.written in
+    search rules

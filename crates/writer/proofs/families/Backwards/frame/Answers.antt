@@ -1,0 +1,19 @@
+-- `writer::families::Backwards::frame` meets its contract. Assumes nothing.
+use borrow.Author.Rules.{rules}
+use Rattle.writer.proofs.Framing.{size_few, frame_last, frame_first, frame_room, frame_done}
+use Rattle.writer.proofs.families.Backwards.frame.Goals as goal
+
+pub overflow_sub-self : goal.overflow_sub-self
+overflow_sub-self c = search (frame_last, rules)
+
+pub heads_size-requires : goal.heads_size-requires
+heads_size-requires c = search (size_few, rules)
+
+pub overflow_sub-self-2 : goal.overflow_sub-self-2
+overflow_sub-self-2 c = search (frame_first, rules)
+
+pub put_heads-requires : goal.put_heads-requires
+put_heads-requires c = (search rules, search (size_few, rules), search (frame_room, rules))
+
+pub returns-clause-written : goal.returns-clause-written
+returns-clause-written c = search (frame_done, rules)
