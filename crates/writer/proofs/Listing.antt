@@ -1,5 +1,5 @@
 -- The octets of a row, by the kind of its table. Theorems. Assumes nothing.
---     ip_spans, ip_row     in a table of IP addresses its numbers have the space's width, and its octets are an address element's
+--     ip_row     in a table of IP addresses its octets are an address element's
 --     Narrow, as_narrow, as_row        in one of AS identifiers they have 32 bits, and its octets are an identifier's
 use mathlib.Core.Path.{◌≡◌, refl}
 use mathlib.Core.Bool.{Bool, true, false}
@@ -9,6 +9,7 @@ use lib.Dec.{eqb}
 use borrow.Author.Tests.{eq-eqb, ne_eqb}
 use Rattle.number.specs.Tests.{pick}
 use Rattle.number.specs.Halves.{whole, bits}
+use Rattle.number.specs.declared.halves.Halves.{Halves}
 use Rattle.number.specs.declared.halves.Width.{Width}
 use Rattle.table.specs.Spaces.{ip_kind, width_of}
 use Rattle.table.specs.Rows.{seen}
@@ -18,16 +19,10 @@ use Rattle.values.specs.Encode.{address_octets, id_octets, element_octets, row_o
 use Rattle.values.specs.declared.elements.Space.TheVariants as space
 use Rattle.writer.specs.Writer.{Lists}
 
--- a row of addresses
-module _ {width : Width} (kind : ℕ) (row : Row) (e : kind ≡ ip_kind) (w : width ≡ width_of row.space) where
-  -- its numbers
-  pub ip_spans : Lists kind (seen row) → (whole row.low ≤ whole row.high) × (whole row.high < 2 ^ bits width)
-  ip_spans l = (l.order, rw w (rw (eq-eqb kind ip_kind e) at l.fits))
-
-  -- its octets
-  pub ip_row : row_octets kind (seen row) ≡ address_octets (bits width) (whole row.low, whole row.high)
-  unfolding row_octets
-  ip_row = rw (eq-eqb kind ip_kind e, w)
+-- the octets of a row of addresses
+pub ip_row : {width : Width} {low high : Halves} (kind : ℕ) (row : Row) → kind ≡ ip_kind → (width ≡ width_of row.space) × (low ≡ row.low) × (high ≡ row.high) → row_octets kind (seen row) ≡ address_octets (bits width) (whole low, whole high)
+unfolding row_octets
+ip_row kind row e (w, l, h) = rw (eq-eqb kind ip_kind e, w, l, h)
 
 -- numbers of 32 bits are their lower halves
 pub record Narrow (row : Row) : Type 0 where

@@ -8,7 +8,7 @@ mod families;
 ghost use Rattle.std.specs.Prelude.{◌≡◌, ◌+◌, ◌^◌, ◌<◌, ◌≤◌, length};
 ghost use Rattle.number.specs.Halves.{whole, bits as bits_of};
 ghost use Rattle.table.specs.Rows.{seen};
-ghost use Rattle.table.specs.Spaces.{ip_kind, kind_of};
+ghost use Rattle.table.specs.Spaces.{ip_kind, kind_of, width_of};
 ghost use Rattle.der.specs.Tags.{BIT_STRING, INTEGER, OCTET_STRING};
 ghost use Rattle.der.specs.Head.{element};
 ghost use Rattle.der.specs.Bits.{bits_of as bit_octets};
@@ -53,28 +53,69 @@ pub enum Form {
     Range(u32, u32),
 }
 
-fn form_of(width: Width, low: Halves, high: Halves) -> Form
-    requires { (whole low ≤ whole high) × (whole high < 2 ^ bits_of width) }
-    ensures { result ≡ spec.form_seen (form_of (bits_of width) (whole low) (whole high)) }
-{
-    match shape::tell(
-        address::from_halves(width, low),
-        address::from_halves(width, high),
-    ) {
-        Some(n) => Form::Prefix(n),
-        None => Form::Range(kept::kept_min(width, low), kept::kept_max(width, high)),
-    }
+// The addresses of a row, from its lowest to its highest, of so many bits.
+#[derive(Clone, Copy)]
+struct Span {
+    width: Width,
+    low: Halves,
+    high: Halves,
+    ghost order: { whole low ≤ whole high },
+    ghost fits: { whole high < 2 ^ bits_of width },
 }
 
-fn address_size(width: Width, low: Halves, high: Halves) -> usize
-    requires { (whole low ≤ whole high) × (whole high < 2 ^ bits_of width) }
-    ensures { (result ≡ length (address_octets (bits_of width) (whole low, whole high))) × (result ≤ spec.row_most) }
-{
-    match form_of(width, low, high) {
-        Form::Prefix(n) => element_size(bits::octets(n)),
-        Form::Range(n, m) => element_size(
-            element_size(bits::octets(n)) + element_size(bits::octets(m)),
-        ),
+impl Span {
+    fn of(row: Row) -> Span
+        requires { spec.Lists ip_kind (seen row) }
+        ensures { (result.width ≡ width_of row.space) × (result.low ≡ row.low) × (result.high ≡ row.high) }
+    {
+        Span {
+            width: spaces::width(row.space),
+            low: row.low,
+            high: row.high,
+        }
+    }
+
+    fn form(self) -> Form
+        ensures { result ≡ spec.form_seen (form_of (bits_of self.width) (whole self.low) (whole self.high)) }
+    {
+        match shape::tell(
+            address::from_halves(self.width, self.low),
+            address::from_halves(self.width, self.high),
+        ) {
+            Some(n) => Form::Prefix(n),
+            None => Form::Range(
+                kept::kept_min(self.width, self.low),
+                kept::kept_max(self.width, self.high),
+            ),
+        }
+    }
+
+    // How many octets its element has.
+    fn size(self) -> usize
+        ensures { (result ≡ length (address_octets (bits_of self.width) (whole self.low, whole self.high))) × (result ≤ spec.row_most) }
+    {
+        match self.form() {
+            Form::Prefix(n) => element_size(bits::octets(n)),
+            Form::Range(n, m) => element_size(
+                element_size(bits::octets(n)) + element_size(bits::octets(m)),
+            ),
+        }
+    }
+
+    // Writes its element at a place.
+    fn put(self, out: &mut [u8], at: usize)
+        requires { at + length (address_octets (bits_of self.width) (whole self.low, whole self.high)) ≤ length out.old }
+        ensures { out.new ≡ written out.old at (address_octets (bits_of self.width) (whole self.low, whole self.high)) }
+    {
+        match self.form() {
+            Form::Prefix(n) => {
+                put_bits(out, at, self.width, n, self.low);
+            }
+            Form::Range(n, m) => {
+                let max = kept::zero_filled(self.width, m, self.high);
+                put_range(out, at, self.width, n, self.low, m, max);
+            }
+        }
     }
 }
 
@@ -93,7 +134,7 @@ fn row_size(kind: u64, row: Row) -> usize
     ensures { (result ≡ length (row_octets kind (seen row))) × (result ≤ spec.row_most) }
 {
     if kind == spaces::IP {
-        return address_size(spaces::width(row.space), row.low, row.high);
+        return Span::of(row).size();
     }
     id_size(row.low.lower as u32, row.high.lower as u32)
 }
@@ -124,21 +165,6 @@ fn put_range(out: &mut [u8], at: usize, width: Width, n: u32, low: Halves, m: u3
     let inner = at + heads::head_size(both);
     put_bits(out, inner, width, n, low);
     put_bits(out, inner + min, width, m, high);
-}
-
-fn put_address(out: &mut [u8], at: usize, width: Width, low: Halves, high: Halves)
-    requires { (whole low ≤ whole high) × (whole high < 2 ^ bits_of width) × (at + length (address_octets (bits_of width) (whole low, whole high)) ≤ length out.old) }
-    ensures { out.new ≡ written out.old at (address_octets (bits_of width) (whole low, whole high)) }
-{
-    match form_of(width, low, high) {
-        Form::Prefix(n) => {
-            put_bits(out, at, width, n, low);
-        }
-        Form::Range(n, m) => {
-            let max = kept::zero_filled(width, m, high);
-            put_range(out, at, width, n, low, m, max);
-        }
-    }
 }
 
 // Writes an INTEGER at a place.
@@ -172,7 +198,7 @@ fn put_row(out: &mut [u8], at: usize, kind: u64, row: Row)
     ensures { out.new ≡ written out.old at (row_octets kind (seen row)) }
 {
     if kind == spaces::IP {
-        put_address(out, at, spaces::width(row.space), row.low, row.high);
+        Span::of(row).put(out, at);
         return;
     }
     put_id(out, at, row.low.lower as u32, row.high.lower as u32);

@@ -1,13 +1,13 @@
 -- `writer::put_row` meets its contract. Assumes nothing.
 use native.Mathlib.Omega.{arith}
-use Rattle.writer.proofs.Listing.{Narrow, ip_spans, ip_row, as_narrow, as_row}
+use Rattle.writer.proofs.Listing.{Narrow, ip_row, as_narrow, as_row}
 use Rattle.writer.proofs.put_row.Goals as goal
 
-pub put_address-requires : goal.put_address-requires
-put_address-requires c = let (o, f) = ip_spans _ c.args.row c.if-kind-eq-IP.true c.width.ensures c.requires.0 in (o, f, rw (ip_row _ c.args.row c.if-kind-eq-IP.true c.width.ensures) at c.requires.1)
+pub put-requires : goal.put-requires
+put-requires c = rw (ip_row _ c.args.row c.if-kind-eq-IP.true c.of.ensures) at c.requires.1
 
 pub returns-then-kind-eq-IP : goal.returns-then-kind-eq-IP
-returns-then-kind-eq-IP c = rw (ip_row _ c.args.row c.if-kind-eq-IP.true c.width.ensures) c.put_address.ensures
+returns-then-kind-eq-IP c = rw (ip_row _ c.args.row c.if-kind-eq-IP.true c.of.ensures) c.put.ensures
 
 pub overflow_cast-row : goal.overflow_cast-row
 overflow_cast-row c = let n : Narrow c.args.row = as_narrow _ _ c.if-kind-eq-IP.false c.requires.0 in omega arith

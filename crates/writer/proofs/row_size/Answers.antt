@@ -1,13 +1,10 @@
 -- `writer::row_size` meets its contract. Assumes nothing.
 use native.Mathlib.Omega.{arith}
-use Rattle.writer.proofs.Listing.{Narrow, ip_spans, ip_row, as_narrow, as_row}
+use Rattle.writer.proofs.Listing.{Narrow, ip_row, as_narrow, as_row}
 use Rattle.writer.proofs.row_size.Goals as goal
 
-pub address_size-requires : goal.address_size-requires
-address_size-requires c = ip_spans _ c.args.row c.if-kind-eq-IP.true c.width.ensures c.requires
-
 pub returns-then-kind-eq-IP : goal.returns-then-kind-eq-IP
-returns-then-kind-eq-IP c = rw (ip_row _ c.args.row c.if-kind-eq-IP.true c.width.ensures) c.address_size.ensures
+returns-then-kind-eq-IP c = rw (ip_row _ c.args.row c.if-kind-eq-IP.true c.of.ensures) c.size.ensures
 
 pub overflow_cast-row : goal.overflow_cast-row
 overflow_cast-row c = let n : Narrow c.args.row = as_narrow _ _ c.if-kind-eq-IP.false c.requires in omega arith
