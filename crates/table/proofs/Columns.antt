@@ -2,20 +2,24 @@
 --     code_row, row_code    a row in halves and a row of whole numbers, both ways
 --     front_numbers, front_alike    a row and its numbers
 --     row_at_lem                what stands at a row that the run has
---     row_read, row_none    the numbers of a row that the run has, and zeros where it has none
+--     column_read, column_none  a number of a row that the run has, and 0 where it has none
+--     row_columns, row_low, row_high    the columns and the row
 --     put_row, put_none     what `put` leaves
-use mathlib.Core.Path.{◌≡◌, ap, ap₂, ◌∙◌}
+use mathlib.Core.Path.{◌≡◌, refl, ap, ap₂, ◌∙◌}
 use mathlib.Core.List.{List, [], ◌∷◌, ◌++◌}
+use mathlib.Core.Bool.{Bool, true, false}
 use Prim.Native.Nat.{ℕ, ◌+◌, ◌*◌, ◌≤◌, ◌<◌, ◌^◌}
-use native.Mathlib.Nat.{add-zero}
 use native.Mathlib.Omega.{arith}
 use lib.ListN.{get_or, take, drop, set}
 use lib.Seq.{get_or-drop}
 use borrow.Author.Tests.{lt-ltb, le-ltb}
+use Rattle.std.specs.Prelude.{ltb}
+use Rattle.number.specs.Tests.{pick}
+use Rattle.number.specs.Halves.{halves}
 use Rattle.number.specs.declared.halves.Halves.{Halves}
 use Rattle.number.proofs.TwoHalves.{halves_whole, whole_halves}
 use Rattle.table.specs.Sizes.{row_numbers}
-use Rattle.table.specs.Rows.{Row, seen, in_halves, numbers, front, nothing, room, row_at, with_row}
+use Rattle.table.specs.Rows.{Row, seen, in_halves, numbers, front, nothing, room, column, row_at, with_row}
 use Rattle.table.specs.declared.rows.Row as code
 use Rattle.table.proofs.Runs.{stores, stored}
 
@@ -35,27 +39,41 @@ pub front_alike : (a b : List ℕ) → ((i : ℕ) → i < row_numbers → get_or
 front_alike a b h =
     cc (h 0 (omega arith), h 1 (omega arith), h 2 (omega arith), h 3 (omega arith), h 4 (omega arith), h 5 (omega arith))
 
+-- a row by its columns
+abbrev by_columns : (ℕ → ℕ) → Row
+by_columns f = record { space = f 0; inherit = f 1; low = f 2 * 2 ^ 64 + f 3; high = f 4 * 2 ^ 64 + f 5 }
+
 module _ (t : List ℕ) (n : ℕ) where
   -- a row that the run has
   pub row_at_lem : n < room t → row_at t n ≡ front (drop (row_numbers * n) t)
   unfolding row_at
   row_at_lem h = rw (lt-ltb n (room t) h)
 
-  -- where it has none there are zeros
-  pub row_none : room t ≤ n → nothing ≡ row_at t n
-  unfolding row_at
-  row_none h = rw (le-ltb n (room t) h)
+  -- a number that the code reads
+  pub column_none : (k : ℕ) → room t ≤ n → 0 ≡ column k t n
+  unfolding column
+  column_none k h = rw (le-ltb n (room t) h)
 
-  -- the numbers that the code reads are the row's
-  pub row_read : n < room t
-      → record {
-        space = get_or t (row_numbers * n) 0;
-        inherit = get_or t (row_numbers * n + 1) 0;
-        low = get_or t (row_numbers * n + 2) 0 * 2 ^ 64 + get_or t (row_numbers * n + 3) 0;
-        high = get_or t (row_numbers * n + 4) 0 * 2 ^ 64 + get_or t (row_numbers * n + 5) 0;
-      }
-      ≡ row_at t n
-  row_read h = rw (row_at_lem h) (simp (get_or-drop, add-zero))
+  pub column_read : (k : ℕ) → n < room t → get_or t (row_numbers * n + k) 0 ≡ column k t n
+  unfolding column
+  column_read k h = rw (lt-ltb n (room t) h)
+
+  -- the columns are the row's, zeros where there is none
+  columns_by : (b : Bool) → by_columns (λ k. pick b (get_or t (row_numbers * n + k) 0) 0) ≡ pick b (front (drop (row_numbers * n) t)) nothing
+  columns_by true = simp get_or-drop refl
+  columns_by false = refl
+
+  pub row_columns : by_columns (λ k. column k t n) ≡ row_at t n
+  unfolding column row_at
+  row_columns = columns_by (ltb n (room t))
+
+  -- two columns are the halves of a number
+  module _ (u l : ℕ) (h : l < 2 ^ 64) where
+    pub row_low : u ≡ column 2 t n → l ≡ column 3 t n → ◌≡◌ {A = Halves} (record { upper = u; lower = l }) (halves (row_at t n).low)
+    row_low p q = halves_whole (record { upper = u; lower = l }) h ∙ ap₂ (λ (a b : ℕ). halves (a * 2 ^ 64 + b)) p q ∙ ap (λ (r : Row). halves r.low) row_columns
+
+    pub row_high : u ≡ column 4 t n → l ≡ column 5 t n → ◌≡◌ {A = Halves} (record { upper = u; lower = l }) (halves (row_at t n).high)
+    row_high p q = halves_whole (record { upper = u; lower = l }) h ∙ ap₂ (λ (a b : ℕ). halves (a * 2 ^ 64 + b)) p q ∙ ap (λ (r : Row). halves r.high) row_columns
 
   module _ (r : code.Row) where
     -- what `put` leaves where the run has no row n, and where it has

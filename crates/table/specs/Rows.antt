@@ -42,6 +42,10 @@ room t = length t / row_numbers
 unfoldable pub row_at : List ℕ → ℕ → Row
 row_at t n = pick (ltb n (room t)) (front (drop (row_numbers * n) t)) nothing
 
+-- the number in a column of row n of a run, 0 where it has no row n
+unfoldable pub column : ℕ → List ℕ → ℕ → ℕ
+column k t n = pick (ltb n (room t)) (get_or t (row_numbers * n + k) 0) 0
+
 -- the run with row n written; as it is where it has no row n
 unfoldable pub with_row : List ℕ → ℕ → Row → List ℕ
 with_row t n r = pick (ltb n (room t)) (take (row_numbers * n) t ++ numbers r ++ drop (row_numbers * n + row_numbers) t) t

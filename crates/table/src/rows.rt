@@ -1,8 +1,9 @@
 // A row in a lent run of numbers: "six 64-bit numbers: space, inherit mark (0 or 1), low (upper half, lower half), high (upper half, lower half)".
 // Only this file knows how many numbers a row has and in which order.
-ghost use Rattle.std.specs.Prelude.{◌≡◌, min};
+ghost use Rattle.std.specs.Prelude.{◌≡◌, ◌<◌, min};
 ghost use Rattle.number.specs.Halves.{halves};
-ghost use Rattle.table.specs.Rows.{in_halves, seen, room, row_at, with_row, cleared};
+ghost use Rattle.table.specs.Sizes.{row_numbers};
+ghost use Rattle.table.specs.Rows.{in_halves, seen, room, column, row_at, with_row, cleared};
 
 use number::halves::{Halves, ZERO};
 
@@ -36,37 +37,38 @@ pub fn count(run: &[u64], n: usize) -> usize
     n.min(run.len() / ROW)
 }
 
-// Returns the space of row n of a run, or 0 where the run has no row n.
-pub fn space(run: &[u64], n: usize) -> u64
-    ensures { result ≡ (row_at run.now n).space }
+// The number in a column of row n of a run, or 0 where the run has no row n.
+fn number<const COLUMN: usize>(run: &[u64], n: usize) -> u64
+    requires { COLUMN < row_numbers }
+    ensures { result ≡ column COLUMN run.now n }
 {
     if run.len() / ROW <= n {
         return 0;
     }
-    run[ROW * n]
+    run[ROW * n + COLUMN]
+}
+
+// Returns the space of row n of a run, or 0 where the run has no row n.
+pub fn space(run: &[u64], n: usize) -> u64
+    ensures { result ≡ (row_at run.now n).space }
+{
+    number::<0>(run, n)
 }
 
 // Returns the inherit mark of row n of a run, or 0 where the run has no row n.
 pub fn inherit(run: &[u64], n: usize) -> u64
     ensures { result ≡ (row_at run.now n).inherit }
 {
-    if run.len() / ROW <= n {
-        return 0;
-    }
-    run[ROW * n + 1]
+    number::<1>(run, n)
 }
 
 // Returns the low of row n of a run, or 0 where the run has no row n.
 pub fn low(run: &[u64], n: usize) -> Halves
     ensures { result ≡ halves (row_at run.now n).low }
 {
-    if run.len() / ROW <= n {
-        return ZERO;
-    }
-    let at = ROW * n;
     Halves {
-        upper: run[at + 2],
-        lower: run[at + 3],
+        upper: number::<2>(run, n),
+        lower: number::<3>(run, n),
     }
 }
 
@@ -74,13 +76,9 @@ pub fn low(run: &[u64], n: usize) -> Halves
 pub fn high(run: &[u64], n: usize) -> Halves
     ensures { result ≡ halves (row_at run.now n).high }
 {
-    if run.len() / ROW <= n {
-        return ZERO;
-    }
-    let at = ROW * n;
     Halves {
-        upper: run[at + 4],
-        lower: run[at + 5],
+        upper: number::<4>(run, n),
+        lower: number::<5>(run, n),
     }
 }
 
