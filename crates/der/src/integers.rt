@@ -80,10 +80,7 @@ pub fn octets(x: u32) -> usize
 pub fn put(out: &mut [u8], at: usize, x: u32)
     ensures { out.new ≡ written out.old at (integer_octets x) }
 {
-    let n = Halves {
-        upper: 0,
-        lower: x as u64,
-    };
+    let n = Halves::from(u64::from(x));
     // An address of 128 bits has the octets of x at its end.
     let a = address::from_halves(Width::Bits128, n);
     let all = a.octets;

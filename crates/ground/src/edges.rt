@@ -48,10 +48,7 @@ pub fn last(width: Width) -> Edge {
 // 2 ^ k, and 0 where that has more than 128 bits.
 fn power(k: u32) -> Halves {
     if k < 64 {
-        return Halves {
-            upper: 0,
-            lower: 1u64 << k,
-        };
+        return Halves::from(1u64 << k);
     }
     if k < 128 {
         return Halves {

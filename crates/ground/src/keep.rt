@@ -40,10 +40,7 @@ fn fill(rt: &impl Print, width: Width, first: u32, n: Halves) {
 // Ones and zeros in turn, alone and in pairs.
 fn pattern(width: Width) -> Halves {
     match width {
-        Width::Bits32 => Halves {
-            upper: 0,
-            lower: 0xa5a5a5a5,
-        },
+        Width::Bits32 => Halves::from(0xa5a5a5a5),
         Width::Bits128 => Halves {
             upper: 0xa5a5a5a5a5a5a5a5,
             lower: 0xa5a5a5a5a5a5a5a5,

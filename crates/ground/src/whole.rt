@@ -60,10 +60,7 @@ fn pairs_of_rows(rt: &impl Print) {
 fn many_rows(rt: &impl Print) {
     let mut run = [0u64; 3078];
     for k in 0..513 {
-        let n = Halves {
-            upper: 0,
-            lower: 2 * (k as u64),
-        };
+        let n = Halves::from(2 * (k as u64));
         let row = Row {
             space: 4096,
             inherit: 0,

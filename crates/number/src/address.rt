@@ -81,10 +81,7 @@ pub fn to_halves(a: Address) -> Halves
     let all: &[u8] = &octets;
     let first = spelled(all);
     match width {
-        Width::Bits32 => Halves {
-            upper: 0,
-            lower: first >> 32,
-        },
+        Width::Bits32 => Halves::from(first >> 32),
         Width::Bits128 => Halves {
             upper: first,
             lower: spelled(&all[8..16]),

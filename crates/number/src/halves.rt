@@ -11,6 +11,15 @@ pub struct Halves {
 
 pub const ZERO: Halves = Halves { upper: 0, lower: 0 };
 
+// A number of up to 64 bits.
+impl From<u64> for Halves {
+    ghost from_gives = { λ n all. all ≡ spec.halves n };
+
+    fn from(n: u64) -> Halves {
+        Halves { lower: n, ..ZERO }
+    }
+}
+
 // How many bits a number of a space has: "at most 32 or 128 bits" (document 01).
 #[derive(Clone, Copy, PartialEq, Eq)]
 pub enum Width {

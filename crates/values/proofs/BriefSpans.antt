@@ -1,5 +1,5 @@
 -- Bits at the start of a word, as the start of w bits: low, high and the one form of a range. Theorems. Assumes nothing.
---     placed_..        bits of a word as an address's.     last_..     with ones after them, and `placed_last`.        filled_..       `filled`
+--     placed_..        bits of a word as an address's.     last_..     with ones after them.        filled_..       `filled`
 --     run_is, kept_..      how many bits min and max keep.     unlike_..       a range is no prefix.        range_sure, range_span      `is_range`, and what is read of it
 use mathlib.Core.Path.{◌≡◌, refl, sym, ap, ◌∙◌}
 use mathlib.Core.Bool.{true, false, not}
@@ -11,13 +11,9 @@ use lib.Bits.{bit_and, and_mask}
 use lib.Dec.{eqb}
 use lib.Pow.{pow_pos, pow-lt, pow-add, split, high, low, shl-shr, mod-pow-add, ones_lt}
 use borrow.Author.Tests.{lt-ltb, eq-eqb, ne_eqb, eqb-false, not-true}
-use Rattle.number.specs.Halves.{halves, bits}
 use Rattle.number.specs.Kept.{run, kept_min, lost_max, kept_max, one_filled}
 use Rattle.number.specs.Shape.{free, is_prefix}
-use Rattle.number.specs.declared.halves.Halves.{Halves}
-use Rattle.number.specs.declared.halves.Width.{Width}
-use Rattle.number.specs.declared.halves.Width.TheVariants.{Bits32, Bits128}
-use Rattle.number.proofs.Cuts.{made, unit_is, unit_pos, fill_below}
+use Rattle.number.proofs.Cuts.{unit_is, unit_pos, fill_below}
 use Rattle.number.proofs.Picks.{below}
 use Rattle.number.proofs.laws.Runs.{run_to, run_from}
 use Rattle.values.specs.Forms.{span, ranged}
@@ -81,19 +77,6 @@ module _ (n x : ℕ) (p : Leading n x) where
   -- it is a word
   pub filled_fits : x + (1 * 2 ^ (64 - n) % 2 ^ 64 - 1) < 2 ^ 64
   filled_fits = omega (arith, filled_is, split x (64 - n), fill_below 64 (64 - n) x (omega arith) p.2)
-
--- what `placed_last` gives: of 32 bits
-pub last_short : (width : Width) (last : ℕ) → width ≡ Bits32 → last < 2 ^ 64 → Within (bits width) (last + 1)
-    → ◌≡◌ {A = Halves} (record { upper = 0; lower = last / 4294967296 }) (halves (placed_bits (bits width) (last + 1) - 1))
-last_short width last e l z =
-    let y : (last + 1) * 2 ^ 32 % 2 ^ 64 ≡ 0 = rw e at z in
-    rw e (made 0 (last / 4294967296) (placed_bits 32 (last + 1) - 1) (omega arith) (omega arith))
-
--- and of 128
-pub last_long : (width : Width) (last : ℕ) → width ≡ Bits128 → ◌≡◌ {A = Halves} (record { upper = last; lower = 18446744073709551615 }) (halves (placed_bits (bits width) (last + 1) - 1))
-last_long width last e =
-    let q : placed_bits 128 (last + 1) ≡ (last + 1) * 2 ^ 64 = ap (λ (y : ℕ). y / 2 ^ 64) (sym (mul_assoc (last + 1) (2 ^ 64) (2 ^ 64))) ∙ shl-shr ((last + 1) * 2 ^ 64) 64 in
-    rw (e, q) (made last 18446744073709551615 ((last + 1) * 2 ^ 64 - 1) (omega arith) (omega arith))
 
 -- j bits at the end that are all b, and another before them
 run_is : (b w n j : ℕ) → b < 2 → j ≤ w → n % 2 ^ j ≡ b * (2 ^ j - 1) → (n / 2 ^ j % 2 ≡ b → ⊥) → run b w n ≡ j

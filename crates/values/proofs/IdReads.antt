@@ -1,5 +1,5 @@
 -- What the code of `ids` finds at each of its ends, in the terms of the definitions: for AS numbers and routing domain identifiers alike, over the number of the space. Theorems. Assumes nothing.
---     id_halves, range_made, none_made     the rows.       integer_..      `any_integer_at`.       pair_..     `pair_of`, `any_pair_at` and `pair_at`
+--     range_made, none_made     the rows.       integer_..      `any_integer_at`.       pair_..     `pair_of`, `any_pair_at` and `pair_at`
 --     number_..    `brief_number`, and a number's row.     brief_..    what `brief_number` says.     span_..     a range's row
 use mathlib.Core.Path.{◌≡◌, refl, sym, ap, ◌∙◌}
 use mathlib.Core.List.{List}
@@ -9,12 +9,9 @@ use native.Mathlib.Omega.{arith}
 use lib.Dec.{ltb}
 use lib.ListN.{length, get_or, take, drop, length-take, length-drop}
 use borrow.Author.Tests.{lt-ltb, le-ltb}
-use Rattle.number.specs.Halves.{halves}
 use Rattle.number.specs.Octets.{Octets, value, octets}
-use Rattle.number.specs.declared.halves.Halves.{Halves}
 use Rattle.number.specs.declared.refusal.Refusal.{Refusal}
 use Rattle.number.specs.declared.refusal.Refusal.TheVariants as refusal
-use Rattle.number.proofs.Cuts.{made}
 use Rattle.number.proofs.Picks.{pick_not, pick_is, rest_of}
 use Rattle.number.proofs.laws.Octets.{value_octets_lem, octets_part}
 use Rattle.table.specs.Rows.{in_halves}
@@ -37,10 +34,6 @@ use Rattle.der.specs.Opening.{Opening}
 use Rattle.std.specs.Prelude.{Result, Ok, Err}
 use Rattle.std.specs.Prelude.{Option, Some, None}
 use Rattle.values.specs.Faults.{Read, Taken}
-
--- a number of 32 bits in halves
-pub id_halves : (n : ℕ) → n < 2 ^ 32 → ◌≡◌ {A = Halves} (record { upper = 0; lower = n }) (halves n)
-id_halves n h = made 0 n n (omega arith) (omega arith)
 
 -- the row of a range
 pub range_made : {r : Row} (a x y : ℕ) → x < y → r ≡ in_halves (listed_row a (x, y)) → Some r ≡ range_seen a x y

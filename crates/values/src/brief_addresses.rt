@@ -71,10 +71,7 @@ fn placed_last(width: Width, last: u64) -> Halves
     ensures { result ≡ halves (placed_bits (bits_of width) (last + 1) - 1) }
 {
     match width {
-        Width::Bits32 => Halves {
-            upper: 0,
-            lower: last >> 32,
-        },
+        Width::Bits32 => Halves::from(last >> 32),
         Width::Bits128 => Halves {
             upper: last,
             lower: u64::MAX,

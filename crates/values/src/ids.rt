@@ -1,7 +1,6 @@
 // ASIdOrRange: "at least one INTEGER or range (min, max)" (RFC 3779, section 3.2.3).
 // "An AS number is never compared with a routing domain identifier": each has a type of its own.
 ghost use Rattle.std.specs.Prelude.{◌≡◌, length};
-ghost use Rattle.number.specs.Halves.{halves};
 ghost use Rattle.table.specs.Rows.{in_halves};
 ghost use Rattle.values.specs.Choices.{listed_row};
 ghost use Rattle.values.specs.Ids as spec;
@@ -25,16 +24,6 @@ pub type AsNumber = Id<{ spaces::AS_NUMBERS }>;
 
 pub type RdiNumber = Id<{ spaces::ROUTING_DOMAINS }>;
 
-// An identifier in halves: it has 32 bits.
-fn id_halves(n: u32) -> Halves
-    ensures { result ≡ halves n }
-{
-    Halves {
-        upper: 0,
-        lower: u64::from(n),
-    }
-}
-
 // Returns the row of the identifiers from low to high.
 pub fn row<const SPACE: u64>(low: Id<SPACE>, high: Id<SPACE>) -> Row
     ensures { result ≡ in_halves (listed_row SPACE (low.entry.0, high.entry.0)) }
@@ -42,8 +31,8 @@ pub fn row<const SPACE: u64>(low: Id<SPACE>, high: Id<SPACE>) -> Row
     Row {
         space: SPACE,
         inherit: 0,
-        low: id_halves(low.0),
-        high: id_halves(high.0),
+        low: Halves::from(u64::from(low.0)),
+        high: Halves::from(u64::from(high.0)),
     }
 }
 

@@ -13,6 +13,7 @@ use Rattle.number.proofs.halves.Width.bits.Reads as bits
 use Rattle.number.proofs.halves.HalvesPartialEq.eq.Reads as eq
 use Rattle.number.proofs.halves.HalvesPartialOrd.partial_cmp.Reads as partial_cmp
 use Rattle.number.proofs.halves.HalvesOrd.cmp.Reads as cmp
+use Rattle.number.proofs.halves.HalvesFromU64.from.Reads as from
 use Rattle.number.proofs.halves.next.Reads as next
 use Rattle.number.proofs.halves.past.Reads as past
 use Rattle.number.proofs.kept.zeros.Reads as zeros
@@ -66,6 +67,10 @@ partial_cmp_one_reply κs a r r' s s' p q = one_reply p q
 
 pub cmp_one_reply : OneReply cmp.Post (λ κs r s. r)
 cmp_one_reply κs a r r' s s' p q = one_reply p q
+
+-- halves::Halves: `Halves::from`
+pub from_one_reply : OneReply from.Post (λ κs r s. r)
+from_one_reply κs a r r' s s' p q = one_reply p q
 
 -- halves::next
 pub next_one_reply : OneReply next.Post (λ κs r s. r)
