@@ -11,19 +11,8 @@ use crate::faults::{Fault, Taken, after};
 use der::{heads, strings, tags};
 use number::halves;
 use number::refusal::Refusal;
+use table::rows;
 use table::rows::Row;
-use table::{rows, spaces};
-
-// The number that a list's rows have for their space.
-fn space_number(space: Space) -> u64
-    ensures { result ≡ space_number space }
-{
-    match space {
-        Space::Addresses(number) => number,
-        Space::AsNumbers => spaces::AS_NUMBERS,
-        Space::RoutingDomains => spaces::ROUTING_DOMAINS,
-    }
-}
 
 // "An inherit row has zeros for low and high".
 fn inherit_row(space: u64) -> Row
@@ -70,7 +59,7 @@ pub fn read(space: Space, s: &[u8], count: usize, table: &mut [u64]) -> Taken<us
     ensures { ChosenInto (space_number space) s.now count table.old (spec.choice_at space count s.now) result table.new }
 {
     if 0 < s.len() && s[0] == tags::NULL {
-        return inherit_at(space_number(space), s, count, table);
+        return inherit_at(u64::from(space), s, count, table);
     }
     list_at(space, s, count, table)
 }

@@ -23,6 +23,19 @@ pub enum Space {
     RoutingDomains,
 }
 
+// The number that a list's rows have for their space.
+impl From<Space> for u64 {
+    ghost from_gives = { λ space number. number ≡ space_number space };
+
+    fn from(space: Space) -> u64 {
+        match space {
+            Space::Addresses(number) => number,
+            Space::AsNumbers => spaces::AS_NUMBERS,
+            Space::RoutingDomains => spaces::ROUTING_DOMAINS,
+        }
+    }
+}
+
 // The element that s begins with.
 fn element(space: Space, s: &[u8]) -> Taken<Row>
     ensures seen { found_seen s.now result ≡ spec.element_at space s.now }

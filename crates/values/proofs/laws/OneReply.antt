@@ -33,6 +33,7 @@ use Rattle.values.proofs.addresses.element.Reads as element
 use Rattle.values.proofs.blocks.read.Reads as blocks_read
 use Rattle.values.proofs.briefs.is_brief.Reads as is_brief
 use Rattle.values.proofs.choices.read.Reads as choices_read
+use Rattle.values.proofs.elements.U64FromSpace.from.Reads as number
 use Rattle.values.proofs.elements.read.Reads as elements_read
 use Rattle.values.proofs.identifiers.read.Reads as identifiers_read
 use Rattle.values.proofs.ids.row.Reads as row
@@ -130,6 +131,10 @@ blocks_read_one_reply κs a r r' s s' p q = counted_one blocks_rows (length a.0.
 -- choices::read, an exception: after a refusal the first 3,072 numbers of the table are open
 pub choices_read_one_reply : OneReply choices_read.Post (λ κs r s. left_in r s.1.1.1.0.now)
 choices_read_one_reply κs a r r' s s' p q = chosen_one (space_number a.0) a.1.0.now a.1.1.0 a.1.1.1.0.now (choice_at a.0 a.1.1.0 a.1.0.now) r r' s.1.1.1.0.now s'.1.1.1.0.now p q
+
+-- elements::Space: `u64::from`
+pub number_one_reply : OneReply number.Post (λ κs r s. r)
+number_one_reply κs a r r' s s' p q = one_reply p q
 
 -- elements::read, an exception: after a refusal the first 3,072 numbers of the table are open
 pub elements_read_one_reply : OneReply elements_read.Post (λ κs r s. left_of r s.1.1.1.0.now)
