@@ -97,6 +97,7 @@ fn brief_prefix(width: Width, s: &[u8]) -> Option<(Span, usize)>
 }
 
 // Whether min and max are sure to be the one form of a range. Most ranges are; `addresses::range_row` judges any other.
+#[inline(always)]
 fn is_range(min: Brief, max: Brief) -> bool
     requires min_leads { Leading min.count min.bits }
     requires max_leads { Leading max.count max.bits }

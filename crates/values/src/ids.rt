@@ -78,6 +78,7 @@ fn brief_number(s: &[u8]) -> Option<(u32, usize)>
 }
 
 // The INTEGER that s begins with.
+#[inline]
 fn integer_at(s: &[u8]) -> Taken<u32>
     ensures seen { integer_seen s.now result ≡ spec.integer_at s.now }
     ensures inside { IntegerIn (length s.now) result }
@@ -130,6 +131,7 @@ fn brief_pair(s: &[u8]) -> Option<((u32, u32), usize)>
 }
 
 // The range that s begins with.
+#[inline]
 fn pair_at(s: &[u8]) -> Taken<(u32, u32)>
     ensures seen { pair_at_seen s.now result ≡ spec.pair_at s.now }
     ensures inside { PairAtIn (length s.now) result }
