@@ -1,16 +1,11 @@
 -- The replies of the face: nine numbers in the run, and what each exit of a function gives. Assumes nothing.
-use mathlib.Core.Path.{◌≡◌, sym, ap, ◌∙◌}
-use mathlib.Core.List.{List, [], ◌∷◌}
-use mathlib.Core.Bool.{Bool, true, false}
+use mathlib.Core.Path.{◌≡◌, ap, ◌∙◌}
+use mathlib.Core.List.{List}
 use Prim.Native.Nat.{ℕ, ◌≤◌, ◌<◌}
-use lib.ListN.{length, set}
-use borrow.Author.Tests.{lt-ltb, le-ltb, eq-eqb, ne_eqb}
-use Rattle.table.proofs.Runs.{stored}
-use Rattle.values.specs.Limits.{ip_extension, as_extension}
+use lib.ListN.{length}
+use borrow.Author.Tests.{lt-ltb, le-ltb}
 use Rattle.values.specs.Readings.{read_ip, read_as, read_both}
 use Rattle.values.specs.Papers.{paper}
-use Rattle.values.specs.Parted.{has_octets}
-use Rattle.values.specs.declared.readings.Refused.{Refused}
 use Rattle.writer.specs.Writer.{Writing, write}
 use Rattle.writer.specs.Papers as writer
 use Rattle.path.specs.Papers as replies
@@ -19,39 +14,6 @@ use Rattle.face.specs.Face.{nine, part_of, parted, told, too_short, given, read_
 use Rattle.face.specs.declared.Nine.{Nine}
 use Rattle.path.specs.Replies.{Reply}
 use Rattle.values.specs.Readings.{Reading}
-use Rattle.std.specs.Prelude.{Result, Ok, Err}
-
--- nine stores at the start of a run
-pub put_nine : (n : Nine) (l : List ℕ) → nine ≤ length l
-    → ◌≡◌ {A = ℕ × List ℕ} (n.number, set (set (set (set (set (set (set (set (set l 0 n.number) 1 n.certificate) 2 n.extension) 3 n.place) 4 n.space) 5 n.upper) 6 n.lower) 7 n.rows) 8 n.pairs) (told (numbers n) l)
-put_nine n l h = ap (λ (t : List ℕ). (n.number, t)) (stored l 0 n.number (n.certificate ∷ n.extension ∷ n.place ∷ n.space ∷ n.upper ∷ n.lower ∷ n.rows ∷ n.pairs ∷ []) h)
-
--- a case of an answer, in this paper's numbers f
-pub case_of : {A : Type 0} (f : A → List ℕ) (x y : A) (r : Nine) → x ≡ y → numbers r ≡ f y → numbers r ≡ f x
-case_of f x y r e h = h ∙ ap f (sym e)
-
--- THE OCTETS AT FAULT
-module _ (ip ids : ℕ) (x : Reading) (n r : Nine) (h : numbers n ≡ paper x) where
-  -- by what is chosen
-  part_by : (p : ℕ × ℕ × ℕ) → numbers r ≡ parted (numbers n) p → p ≡ part_of ip ids x → numbers r ≡ parted (paper x) (part_of ip ids x)
-  part_by p e q = e ∙ ap (λ (l : List ℕ). parted l p) h ∙ ap (λ (q : ℕ × ℕ × ℕ). parted (paper x) q) q
-
-  -- both values were read
-  pub part_read : (k : ℕ) → x ≡ Ok k → numbers r ≡ parted (numbers n) (ip_extension, 0, 0) → numbers r ≡ parted (paper x) (part_of ip ids x)
-  part_read k e q = part_by (ip_extension, 0, 0) q (rw e)
-
-  module _ (f : Refused) (b : Bool) (e : x ≡ Err f) (g : b ≡ has_octets f.refusal) where
-    -- a refusal that has none
-    pub part_none : b ≡ false → numbers r ≡ parted (numbers n) (ip_extension, 0, 0) → numbers r ≡ parted (paper x) (part_of ip ids x)
-    part_none t q = part_by (ip_extension, 0, 0) q (rw (e, ← g, t))
-
-    -- of the IP value
-    pub part_ip : b ≡ true → f.extension ≡ ip_extension → numbers r ≡ parted (numbers n) (ip_extension, f.place, ip) → numbers r ≡ parted (paper x) (part_of ip ids x)
-    part_ip t i q = part_by (ip_extension, f.place, ip) q (rw (e, ← g, t, eq-eqb f.extension ip_extension i))
-
-    -- of the AS value
-    pub part_ids : b ≡ true → (f.extension ≡ ip_extension → ⊥) → numbers r ≡ parted (numbers n) (as_extension, f.place, ids) → numbers r ≡ parted (paper x) (part_of ip ids x)
-    part_ids t i q = part_by (as_extension, f.place, ids) q (rw (e, ← g, t, ne_eqb f.extension ip_extension i))
 
 -- THE EXITS
 

@@ -13,7 +13,6 @@ use Rattle.path.specs.Papers as path
 use Rattle.path.specs.Paths.{check}
 use Rattle.face.specs.declared.Nine.{Nine}
 use Rattle.values.specs.Readings.{Reading}
-use Rattle.std.specs.Prelude.{Result, Ok, Err}
 
 -- how many numbers a reply has
 abbrev pub nine : ℕ

@@ -13,7 +13,6 @@ use path::paths;
 use path::replies::Reply;
 use values::readings::{Reading, Refused};
 use values::{limits, parts, readings};
-use writer::Writing;
 
 // The numbers of a reply.
 pub const NUMBERS: usize = 9;
@@ -32,119 +31,122 @@ struct Nine {
     pairs: u64,
 }
 
+impl Nine {
+    // The numbers in their order.
+    fn numbers(self) -> [u64; NUMBERS]
+        ensures { result ≡ spec.numbers self }
+    {
+        [
+            self.number,
+            self.certificate,
+            self.extension,
+            self.place,
+            self.space,
+            self.upper,
+            self.lower,
+            self.rows,
+            self.pairs,
+        ]
+    }
+
+    // "On acceptance certificate, extension and place are 0 everywhere."
+    fn accepted(rows: usize, pairs: usize) -> Nine
+        ensures { spec.numbers result ≡ values.accepted rows pairs }
+    {
+        Nine {
+            number: 0,
+            certificate: 0,
+            extension: 0,
+            place: 0,
+            space: 0,
+            upper: 0,
+            lower: 0,
+            rows: rows as u64,
+            pairs: pairs as u64,
+        }
+    }
+
+    // The reply with a part of a value in the fields of space and value.
+    fn with_part(self, which: u64, start: usize, end: usize) -> Nine
+        ensures { spec.numbers result ≡ spec.parted (spec.numbers self) (which, start, end) }
+    {
+        Nine {
+            space: which,
+            upper: start as u64,
+            lower: end as u64,
+            ..self
+        }
+    }
+}
+
+// A refusal "reports 0 rows", and 0 pairs.
+impl From<Refused> for Nine {
+    ghost from_gives = { λ fault nine. spec.numbers nine ≡ values.refused fault };
+
+    fn from(fault: Refused) -> Nine {
+        Nine {
+            number: u64::from(fault.refusal),
+            certificate: fault.certificate,
+            extension: fault.extension,
+            place: fault.place as u64,
+            space: fault.space,
+            upper: fault.value.upper,
+            lower: fault.value.lower,
+            rows: 0,
+            pairs: 0,
+        }
+    }
+}
+
+// The answer of a reader, which is of rows, and of the writer, which is of octets.
+impl From<Result<usize, Refused>> for Nine {
+    ghost from_gives = { λ answer nine. (spec.numbers nine ≡ values.paper answer) × (spec.numbers nine ≡ writer.paper answer) };
+
+    fn from(answer: Result<usize, Refused>) -> Nine {
+        match answer {
+            Ok(n) => Nine::accepted(n, 0),
+            Err(fault) => Nine::from(fault),
+        }
+    }
+}
+
+// The answer of the path check.
+impl From<Reply> for Nine {
+    ghost from_gives = { λ reply nine. spec.numbers nine ≡ path.paper reply };
+
+    fn from(reply: Reply) -> Nine {
+        match reply {
+            Ok(done) => Nine::accepted(done.rows, done.pairs),
+            Err(fault) => Nine::from(fault),
+        }
+    }
+}
+
 // Writes the nine numbers at the start of a run. Returns the first of them.
 fn put(reply: &mut [u64], nine: Nine) -> u64
     requires { spec.nine ≤ length reply.old }
     ensures { (result, reply.new) ≡ spec.told (spec.numbers nine) reply.old }
 {
-    reply[0] = nine.number;
-    reply[1] = nine.certificate;
-    reply[2] = nine.extension;
-    reply[3] = nine.place;
-    reply[4] = nine.space;
-    reply[5] = nine.upper;
-    reply[6] = nine.lower;
-    reply[7] = nine.rows;
-    reply[8] = nine.pairs;
+    reply[..NUMBERS].copy_from_slice(&nine.numbers());
     nine.number
-}
-
-// A refusal "reports 0 rows", and 0 pairs.
-fn refused(fault: Refused) -> Nine
-    ensures { spec.numbers result ≡ values.refused fault }
-{
-    let refusal = fault.refusal;
-    let value = fault.value;
-    Nine {
-        number: u64::from(refusal),
-        certificate: fault.certificate,
-        extension: fault.extension,
-        place: fault.place as u64,
-        space: fault.space,
-        upper: value.upper,
-        lower: value.lower,
-        rows: 0,
-        pairs: 0,
-    }
-}
-
-// "On acceptance certificate, extension and place are 0 everywhere."
-fn accepted(rows: usize, pairs: usize) -> Nine
-    ensures { spec.numbers result ≡ values.accepted rows pairs }
-{
-    Nine {
-        number: 0,
-        certificate: 0,
-        extension: 0,
-        place: 0,
-        space: 0,
-        upper: 0,
-        lower: 0,
-        rows: rows as u64,
-        pairs: pairs as u64,
-    }
-}
-
-fn of_reading(reading: Reading) -> Nine
-    ensures { spec.numbers result ≡ values.paper reading }
-{
-    match reading {
-        Ok(n) => accepted(n, 0),
-        Err(fault) => refused(fault),
-    }
-}
-
-fn of_writing(writing: Writing) -> Nine
-    ensures { spec.numbers result ≡ writer.paper writing }
-{
-    match writing {
-        Ok(n) => accepted(n, 0),
-        Err(fault) => refused(fault),
-    }
-}
-
-fn of_reply(reply: Reply) -> Nine
-    ensures { spec.numbers result ≡ path.paper reply }
-{
-    match reply {
-        Ok(done) => accepted(done.rows, done.pairs),
-        Err(fault) => refused(fault),
-    }
-}
-
-// A reply with a part of a value in the fields of space and value.
-fn with_part(nine: Nine, which: u64, start: usize, end: usize) -> Nine
-    ensures { spec.numbers result ≡ spec.parted (spec.numbers nine) (which, start, end) }
-{
-    Nine {
-        number: nine.number,
-        certificate: nine.certificate,
-        extension: nine.extension,
-        place: nine.place,
-        space: which,
-        upper: start as u64,
-        lower: end as u64,
-        rows: nine.rows,
-        pairs: nine.pairs,
-    }
 }
 
 // The reading of one certificate's two values, with the octets at fault: of which value, from where to where.
 fn of_fault(reading: Reading, ip: usize, ids: usize) -> Nine
     ensures { spec.numbers result ≡ spec.parted (values.paper reading) (spec.part_of ip ids reading) }
 {
-    let nine = of_reading(reading);
+    let nine = Nine::from(reading);
     match reading {
-        Ok(_) => with_part(nine, limits::IP_EXTENSION, 0, 0),
+        Ok(_) => nine.with_part(limits::IP_EXTENSION, 0, 0),
         Err(fault) => {
             let refusal = fault.refusal;
             if parts::has_octets(refusal) {
                 if fault.extension == limits::IP_EXTENSION {
-                    return with_part(nine, limits::IP_EXTENSION, fault.place, ip);
+                    return nine.with_part(limits::IP_EXTENSION, fault.place, ip);
                 }
-                return with_part(nine, limits::AS_EXTENSION, fault.place, ids);
+                return nine.with_part(limits::AS_EXTENSION, fault.place, ids);
             }
-            with_part(nine, limits::IP_EXTENSION, 0, 0)
+            nine.with_part(limits::IP_EXTENSION, 0, 0)
         }
     }
 }
@@ -164,7 +166,7 @@ pub fn rch_read_ip(value: &[u8], table: &mut [u64], reply: &mut [u64]) -> u64
         return short();
     }
     let reading = readings::read_ip(value, table);
-    put(reply, of_reading(reading))
+    put(reply, Nine::from(reading))
 }
 
 // Reads an ASIdentifiers value into the table. Returns the number of the refusal, or 0.
@@ -175,7 +177,7 @@ pub fn rch_read_as(value: &[u8], table: &mut [u64], reply: &mut [u64]) -> u64
         return short();
     }
     let reading = readings::read_as(value, table);
-    put(reply, of_reading(reading))
+    put(reply, Nine::from(reading))
 }
 
 // Writes the value of rows: kind 1 IPAddrBlocks, 2 ASIdentifiers. Returns the number of the refusal, or 0.
@@ -186,7 +188,7 @@ pub fn rch_write(kind: u64, rows: &[u64], out: &mut [u8], reply: &mut [u64]) -> 
         return short();
     }
     let writing = writer::write(kind, rows, out);
-    put(reply, of_writing(writing))
+    put(reply, Nine::from(writing))
 }
 
 // Checks the path of a bundle; the last certificate's rows are left in the first table. Returns the number of the refusal, or 0.
@@ -197,7 +199,7 @@ pub fn rch_path(bundle: &[u8], first: &mut [u64], second: &mut [u64], reply: &mu
         return short();
     }
     let answer = paths::check(bundle, first, second);
-    put(reply, of_reply(answer))
+    put(reply, Nine::from(answer))
 }
 
 // Reads one certificate's two values, and says which octets are at fault. Returns the number of the refusal, or 0.
