@@ -137,17 +137,13 @@ fn of_fault(reading: Reading, ip: usize, ids: usize) -> Nine
 {
     let nine = Nine::from(reading);
     match reading {
-        Ok(_) => nine.with_part(limits::IP_EXTENSION, 0, 0),
-        Err(fault) => {
-            let refusal = fault.refusal;
-            if parts::has_octets(refusal) {
-                if fault.extension == limits::IP_EXTENSION {
-                    return nine.with_part(limits::IP_EXTENSION, fault.place, ip);
-                }
-                return nine.with_part(limits::AS_EXTENSION, fault.place, ids);
+        Err(fault) if parts::has_octets(fault.refusal) => {
+            if fault.extension == limits::IP_EXTENSION {
+                return nine.with_part(limits::IP_EXTENSION, fault.place, ip);
             }
-            nine.with_part(limits::IP_EXTENSION, 0, 0)
+            nine.with_part(limits::AS_EXTENSION, fault.place, ids)
         }
+        _ => nine.with_part(limits::IP_EXTENSION, 0, 0),
     }
 }
 
