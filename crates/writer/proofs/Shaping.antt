@@ -1,7 +1,8 @@
 -- The one form of a row's addresses, from the shape that the code is told. Theorems. Assumes nothing.
 --     shape_prefix, shape_range        what `Span::form` answers
 --     AsPrefix, AsRange        what a form says of the octets.      as_prefix_lem, as_range_lem      and the answer's form does
---     range_two        how many octets min and max have.      range_below, range_is        a range with max as the code fills it in
+--     range_two, kept_two        how many octets min and max have.      prefix_is        a prefix with its bits
+--     range_below, range_is        a range with max as the code fills it in
 use mathlib.Core.Path.{◌≡◌, refl, sym, ap, ◌∙◌}
 use mathlib.Core.List.{◌++◌}
 use Prim.Native.Nat.{ℕ, ◌^◌, ◌≤◌, ◌<◌}
@@ -19,11 +20,12 @@ use Rattle.number.proofs.laws.Address.{address_is}
 use Rattle.der.specs.Tags.{BIT_STRING, SEQUENCE}
 use Rattle.der.specs.Head.{element}
 use Rattle.der.specs.Bits.{bits_of, bits_size}
-use Rattle.values.specs.Forms.{Form, range, formed, form_of}
-use Rattle.values.specs.Encode.{form_octets, address_octets}
+use Rattle.values.specs.Forms.{Form, formed, form_of}
+use Rattle.values.specs.Encode.{address_octets}
 use Rattle.values.proofs.laws.Forms.{Parts, form_parts}
 use Rattle.writer.specs.Writer.{form_seen, element_size}
 use Rattle.writer.specs.declared.Form as code
+use Rattle.writer.specs.declared.Bits.{Bits}
 use Rattle.writer.specs.declared.Span.{Span}
 use Rattle.writer.specs.declared.Form.TheVariants as form
 use Rattle.writer.proofs.Sizing.{Two, bits_most, bits_two}
@@ -116,9 +118,18 @@ module _ {f : code.Form} (s : Span) (e : f ≡ form_seen (form_of (bits s.width)
 -- the elements of min and max, counted
 pub range_two : {s : Span} {n m k l a b : ℕ} → AsRange s n m → k ≡ bits_size n → l ≡ bits_size m → a ≡ element_size k → b ≡ element_size l
     → Two BIT_STRING (bits_of (bits s.width) n (whole s.low)) (bits_of (bits s.width) m (zero_filled (bits s.width) m (whole s.high))) a b
-range_two {s} {n} {m} r e f g h = bits_two s.width n (whole s.low) m (zero_filled (bits s.width) m (whole s.high)) r.fits r.fits_max e f g h
+range_two {s} {n} {m} r e f g h = bits_two s.width s.width n (whole s.low) m (zero_filled (bits s.width) m (whole s.high)) r.fits r.fits_max e f g h
 
--- max as the code fills it in
+-- and of any two addresses
+pub kept_two : (s t : Bits) {k l a b : ℕ} → k ≡ bits_size s.count → l ≡ bits_size t.count → a ≡ element_size k → b ≡ element_size l
+    → Two BIT_STRING (bits_of (bits s.width) s.count (whole s.address)) (bits_of (bits t.width) t.count (whole t.address)) a b
+kept_two s t e f g h = bits_two s.width t.width s.count (whole s.address) t.count (whole t.address) s.kept t.kept e f g h
+
+-- a prefix as the code has it
+pub prefix_is : {s : Span} {n : ℕ} (b : Bits) → AsPrefix s n → (b.width ≡ s.width) × (b.count ≡ n) × (b.address ≡ s.low) → address_octets (bits s.width) (whole s.low, whole s.high) ≡ element BIT_STRING (bits_of (bits b.width) b.count (whole b.address))
+prefix_is b p (w, c, a) = p.is ∙ rw (w, c, a)
+
+-- a range, with max as the code fills it in
 module _ {s : Span} {n m : ℕ} (z : Halves) (p : AsRange s n m) (e : z ≡ halves (zero_filled (bits s.width) m (whole s.high))) where
   -- is that of the form
   filled : whole z ≡ zero_filled (bits s.width) m (whole s.high)
@@ -129,5 +140,6 @@ module _ {s : Span} {n m : ℕ} (z : Halves) (p : AsRange s n m) (e : z ≡ halv
   range_below = rw filled p.below_max
 
   -- so the octets are those of the range
-  pub range_is : address_octets (bits s.width) (whole s.low, whole s.high) ≡ form_octets (bits s.width) (range n (whole s.low) m (whole z))
-  range_is = rw filled p.is
+  pub range_is : (b : Bits) → (b.width ≡ s.width) × (b.count ≡ n) × (b.address ≡ s.low)
+      → address_octets (bits s.width) (whole s.low, whole s.high) ≡ element SEQUENCE (element BIT_STRING (bits_of (bits b.width) b.count (whole b.address)) ++ element BIT_STRING (bits_of (bits s.width) m (whole z)))
+  range_is b (w, c, a) = rw (filled, w, c, a) p.is

@@ -56,17 +56,15 @@ module _ (t : ℕ) where
       let w = head_two (a + b) (omega (arith, p)) in
       (omega arith, omega (arith, p))
 
--- BIT STRINGs
-module _ (width : Width) where
-  -- one
-  pub bits_few : {k r : ℕ} (n x : ℕ) → n ≤ bits width → k ≡ bits_size n → r ≡ element_size k → Few r (element BIT_STRING (bits_of (bits width) n x))
-  bits_few {k} {r} n x h e g = one_few BIT_STRING (bits_of (bits width) n x) (bits_size_lem (bits width) n x ∙ sym e) (omega (arith, bits_most width n h)) g
+-- BIT STRINGs: one
+pub bits_few : (width : Width) {k r : ℕ} (n x : ℕ) → n ≤ bits width → k ≡ bits_size n → r ≡ element_size k → Few r (element BIT_STRING (bits_of (bits width) n x))
+bits_few width {k} {r} n x h e g = one_few BIT_STRING (bits_of (bits width) n x) (bits_size_lem (bits width) n x ∙ sym e) (omega (arith, bits_most width n h)) g
 
-  -- and two
-  pub bits_two : {k l a b : ℕ} (n x m y : ℕ) → n ≤ bits width → m ≤ bits width → k ≡ bits_size n → l ≡ bits_size m → a ≡ element_size k → b ≡ element_size l
-      → Two BIT_STRING (bits_of (bits width) n x) (bits_of (bits width) m y) a b
-  bits_two {k} {l} {a} {b} n x m y h i e f =
-      two BIT_STRING (bits_of (bits width) n x) (bits_of (bits width) m y) (bits_size_lem (bits width) n x ∙ sym e) (bits_size_lem (bits width) m y ∙ sym f) (omega (arith, bits_most width n h)) (omega (arith, bits_most width m i))
+-- and two
+pub bits_two : (v w : Width) {k l a b : ℕ} (n x m y : ℕ) → n ≤ bits v → m ≤ bits w → k ≡ bits_size n → l ≡ bits_size m → a ≡ element_size k → b ≡ element_size l
+    → Two BIT_STRING (bits_of (bits v) n x) (bits_of (bits w) m y) a b
+bits_two v w {k} {l} {a} {b} n x m y h i e f =
+    two BIT_STRING (bits_of (bits v) n x) (bits_of (bits w) m y) (bits_size_lem (bits v) n x ∙ sym e) (bits_size_lem (bits w) m y ∙ sym f) (omega (arith, bits_most v n h)) (omega (arith, bits_most w m i))
 
 -- INTEGERs: one
 pub integer_few : {k r : ℕ} (x : ℕ) → k ≡ integer_size x → r ≡ element_size k → Few r (element INTEGER (integer_octets x))

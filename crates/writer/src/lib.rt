@@ -5,17 +5,17 @@
 
 mod families;
 
-ghost use Rattle.std.specs.Prelude.{◌≡◌, ◌+◌, ◌^◌, ◌<◌, ◌≤◌, length};
+ghost use Rattle.std.specs.Prelude.{◌≡◌, ◌+◌, ◌^◌, ◌<◌, ◌≤◌, ◌++◌, length};
 ghost use Rattle.number.specs.Halves.{whole, bits as bits_of};
 ghost use Rattle.table.specs.Rows.{seen};
 ghost use Rattle.table.specs.Spaces.{ip_kind, kind_of, width_of};
-ghost use Rattle.der.specs.Tags.{BIT_STRING, INTEGER, OCTET_STRING};
+ghost use Rattle.der.specs.Tags.{BIT_STRING, INTEGER, OCTET_STRING, SEQUENCE};
 ghost use Rattle.der.specs.Head.{element};
 ghost use Rattle.der.specs.Bits.{bits_of as bit_octets};
 ghost use Rattle.der.specs.Integer.{integer_octets};
 ghost use Rattle.der.specs.Written.{written};
-ghost use Rattle.values.specs.Forms.{range, form_of};
-ghost use Rattle.values.specs.Encode.{form_octets, address_octets, id_octets, space_octets, row_octets, group_heads};
+ghost use Rattle.values.specs.Forms.{form_of};
+ghost use Rattle.values.specs.Encode.{address_octets, id_octets, space_octets, row_octets, group_heads};
 ghost use Rattle.writer.specs.Writer as spec;
 
 use der::{bits, heads, integers, tags};
@@ -53,7 +53,47 @@ pub enum Form {
     Range(u32, u32),
 }
 
-// The addresses of a row, from its lowest to its highest, of so many bits.
+// The first bits of an address, as many as are kept of its width's.
+#[derive(Clone, Copy)]
+struct Bits {
+    width: Width,
+    count: u32,
+    address: Halves,
+    ghost kept: { count ≤ bits_of width },
+    ghost fits: { whole address < 2 ^ bits_of width },
+}
+
+impl Bits {
+    // Writes their BIT STRING at a place.
+    fn put(self, out: &mut [u8], at: usize)
+        requires { at + length (element BIT_STRING (bit_octets (bits_of self.width) self.count (whole self.address))) ≤ length out.old }
+        ensures { out.new ≡ written out.old at (element BIT_STRING (bit_octets (bits_of self.width) self.count (whole self.address))) }
+    {
+        let size = bits::octets(self.count);
+        heads::put_head(out, at, tags::BIT_STRING, size);
+        bits::put(
+            out,
+            at + heads::head_size(size),
+            self.count,
+            address::from_halves(self.width, self.address),
+        );
+    }
+}
+
+// Writes a range at a place: min and max with the bits that they keep.
+fn put_range(out: &mut [u8], at: usize, min: Bits, max: Bits)
+    requires { at + length (element SEQUENCE (element BIT_STRING (bit_octets (bits_of min.width) min.count (whole min.address)) ++ element BIT_STRING (bit_octets (bits_of max.width) max.count (whole max.address)))) ≤ length out.old }
+    ensures { out.new ≡ written out.old at (element SEQUENCE (element BIT_STRING (bit_octets (bits_of min.width) min.count (whole min.address)) ++ element BIT_STRING (bit_octets (bits_of max.width) max.count (whole max.address)))) }
+{
+    let first = element_size(bits::octets(min.count));
+    let both = first + element_size(bits::octets(max.count));
+    heads::put_head(out, at, tags::SEQUENCE, both);
+    let inner = at + heads::head_size(both);
+    min.put(out, inner);
+    max.put(out, inner + first);
+}
+
+// The addresses of a row, from its lowest to its highest: they have the width's bits.
 #[derive(Clone, Copy)]
 struct Span {
     width: Width,
@@ -64,6 +104,7 @@ struct Span {
 }
 
 impl Span {
+    // Those of a row that lists addresses.
     fn of(row: Row) -> Span
         requires { spec.Lists ip_kind (seen row) }
         ensures { (result.width ≡ width_of row.space) × (result.low ≡ row.low) × (result.high ≡ row.high) }
@@ -75,6 +116,7 @@ impl Span {
         }
     }
 
+    // The bits that its element keeps.
     fn form(self) -> Form
         ensures { result ≡ spec.form_seen (form_of (bits_of self.width) (whole self.low) (whole self.high)) }
     {
@@ -87,6 +129,18 @@ impl Span {
                 kept::kept_min(self.width, self.low),
                 kept::kept_max(self.width, self.high),
             ),
+        }
+    }
+
+    // The first n bits of the lowest address.
+    fn low_bits(self, n: u32) -> Bits
+        requires { n ≤ bits_of self.width }
+        ensures { (result.width ≡ self.width) × (result.count ≡ n) × (result.address ≡ self.low) }
+    {
+        Bits {
+            width: self.width,
+            count: n,
+            address: self.low,
         }
     }
 
@@ -108,63 +162,17 @@ impl Span {
         ensures { out.new ≡ written out.old at (address_octets (bits_of self.width) (whole self.low, whole self.high)) }
     {
         match self.form() {
-            Form::Prefix(n) => {
-                put_bits(out, at, self.width, n, self.low);
-            }
+            Form::Prefix(n) => self.low_bits(n).put(out, at),
             Form::Range(n, m) => {
-                let max = kept::zero_filled(self.width, m, self.high);
-                put_range(out, at, self.width, n, self.low, m, max);
+                let max = Bits {
+                    width: self.width,
+                    count: m,
+                    address: kept::zero_filled(self.width, m, self.high),
+                };
+                put_range(out, at, self.low_bits(n), max);
             }
         }
     }
-}
-
-fn id_size(low: u32, high: u32) -> usize
-    ensures { (result ≡ length (id_octets (low, high))) × (result ≤ spec.row_most) }
-{
-    let min = element_size(integers::octets(low));
-    if low == high {
-        return min;
-    }
-    element_size(min + element_size(integers::octets(high)))
-}
-
-fn row_size(kind: u64, row: Row) -> usize
-    requires { spec.Lists kind (seen row) }
-    ensures { (result ≡ length (row_octets kind (seen row))) × (result ≤ spec.row_most) }
-{
-    if kind == spaces::IP {
-        return Span::of(row).size();
-    }
-    id_size(row.low.lower as u32, row.high.lower as u32)
-}
-
-// Writes a BIT STRING of the first bits of a number at a place.
-fn put_bits(out: &mut [u8], at: usize, width: Width, count: u32, n: Halves)
-    requires { (count ≤ bits_of width) × (whole n < 2 ^ bits_of width) × (at + length (element BIT_STRING (bit_octets (bits_of width) count (whole n))) ≤ length out.old) }
-    ensures { out.new ≡ written out.old at (element BIT_STRING (bit_octets (bits_of width) count (whole n))) }
-{
-    let size = bits::octets(count);
-    heads::put_head(out, at, tags::BIT_STRING, size);
-    bits::put(
-        out,
-        at + heads::head_size(size),
-        count,
-        address::from_halves(width, n),
-    );
-}
-
-// Writes a range at a place: min and max with the bits that they keep.
-fn put_range(out: &mut [u8], at: usize, width: Width, n: u32, low: Halves, m: u32, high: Halves)
-    requires { (n ≤ bits_of width) × (m ≤ bits_of width) × (whole low < 2 ^ bits_of width) × (whole high < 2 ^ bits_of width) × (at + length (form_octets (bits_of width) (range n (whole low) m (whole high))) ≤ length out.old) }
-    ensures { out.new ≡ written out.old at (form_octets (bits_of width) (range n (whole low) m (whole high))) }
-{
-    let min = element_size(bits::octets(n));
-    let both = min + element_size(bits::octets(m));
-    heads::put_head(out, at, tags::SEQUENCE, both);
-    let inner = at + heads::head_size(both);
-    put_bits(out, inner, width, n, low);
-    put_bits(out, inner + min, width, m, high);
 }
 
 // Writes an INTEGER at a place.
@@ -177,20 +185,62 @@ fn put_integer(out: &mut [u8], at: usize, x: u32)
     integers::put(out, at + heads::head_size(size), x);
 }
 
-fn put_id(out: &mut [u8], at: usize, low: u32, high: u32)
-    requires { at + length (id_octets (low, high)) ≤ length out.old }
-    ensures { out.new ≡ written out.old at (id_octets (low, high)) }
-{
-    if low == high {
-        put_integer(out, at, low);
-        return;
+// The identifiers of a row, from its lowest to its highest.
+#[derive(Clone, Copy)]
+struct Ids {
+    low: u32,
+    high: u32,
+}
+
+impl Ids {
+    // Those of a row that lists numbers of 32 bits.
+    fn of(row: Row) -> Ids
+        requires { (whole row.low ≤ whole row.high) × (whole row.high < 2 ^ 32) }
+        ensures { (result.low ≡ whole row.low) × (result.high ≡ whole row.high) }
+    {
+        Ids {
+            low: row.low.lower as u32,
+            high: row.high.lower as u32,
+        }
     }
-    let min = element_size(integers::octets(low));
-    let both = min + element_size(integers::octets(high));
-    heads::put_head(out, at, tags::SEQUENCE, both);
-    let inner = at + heads::head_size(both);
-    put_integer(out, inner, low);
-    put_integer(out, inner + min, high);
+
+    // How many octets their element has.
+    fn size(self) -> usize
+        ensures { (result ≡ length (id_octets (self.low, self.high))) × (result ≤ spec.row_most) }
+    {
+        let min = element_size(integers::octets(self.low));
+        if self.low == self.high {
+            return min;
+        }
+        element_size(min + element_size(integers::octets(self.high)))
+    }
+
+    // Writes their element at a place.
+    fn put(self, out: &mut [u8], at: usize)
+        requires { at + length (id_octets (self.low, self.high)) ≤ length out.old }
+        ensures { out.new ≡ written out.old at (id_octets (self.low, self.high)) }
+    {
+        if self.low == self.high {
+            put_integer(out, at, self.low);
+            return;
+        }
+        let min = element_size(integers::octets(self.low));
+        let both = min + element_size(integers::octets(self.high));
+        heads::put_head(out, at, tags::SEQUENCE, both);
+        let inner = at + heads::head_size(both);
+        put_integer(out, inner, self.low);
+        put_integer(out, inner + min, self.high);
+    }
+}
+
+fn row_size(kind: u64, row: Row) -> usize
+    requires { spec.Lists kind (seen row) }
+    ensures { (result ≡ length (row_octets kind (seen row))) × (result ≤ spec.row_most) }
+{
+    if kind == spaces::IP {
+        return Span::of(row).size();
+    }
+    Ids::of(row).size()
 }
 
 fn put_row(out: &mut [u8], at: usize, kind: u64, row: Row)
@@ -201,7 +251,7 @@ fn put_row(out: &mut [u8], at: usize, kind: u64, row: Row)
         Span::of(row).put(out, at);
         return;
     }
-    put_id(out, at, row.low.lower as u32, row.high.lower as u32);
+    Ids::of(row).put(out, at);
 }
 
 // How many octets an addressFamily has: an AFI, and a SAFI or none.

@@ -1,6 +1,5 @@
 -- `writer::put_row` meets its contract. Assumes nothing.
-use native.Mathlib.Omega.{arith}
-use Rattle.writer.proofs.Listing.{Narrow, ip_row, as_narrow, as_row}
+use Rattle.writer.proofs.Listing.{ip_row, as_row}
 use Rattle.writer.proofs.put_row.Goals as goal
 
 pub put-requires : goal.put-requires
@@ -9,14 +8,8 @@ put-requires c = rw (ip_row _ c.args.row c.if-kind-eq-IP.true c.of.ensures) at c
 pub returns-then-kind-eq-IP : goal.returns-then-kind-eq-IP
 returns-then-kind-eq-IP c = rw (ip_row _ c.args.row c.if-kind-eq-IP.true c.of.ensures) c.put.ensures
 
-pub overflow_cast-row : goal.overflow_cast-row
-overflow_cast-row c = let n : Narrow c.args.row = as_narrow _ _ c.if-kind-eq-IP.false c.requires.0 in omega arith
-
-pub overflow_cast-row-2 : goal.overflow_cast-row-2
-overflow_cast-row-2 c = let n : Narrow c.args.row = as_narrow _ _ c.if-kind-eq-IP.false c.requires.0 in omega arith
-
-pub put_id-requires : goal.put_id-requires
-put_id-requires c = rw (as_row _ _ c.if-kind-eq-IP.false c.requires.0) at c.requires.1
+pub put-requires-2 : goal.put-requires-2
+put-requires-2 c = rw (as_row _ c.args.row c.if-kind-eq-IP.false c.of-2.ensures) at c.requires.1
 
 pub returns : goal.returns
-returns c = rw (as_row _ _ c.if-kind-eq-IP.false c.requires.0) c.put_id.ensures
+returns c = rw (as_row _ c.args.row c.if-kind-eq-IP.false c.of-2.ensures) c.put-2.ensures
