@@ -11,11 +11,11 @@ use borrow.Author.Tests.{eq-eqb, ne_eqb}
 use Rattle.std.specs.Prelude.{Ok, Err}
 use Rattle.number.specs.Tests.{pick}
 use Rattle.table.specs.Sizes.{row_numbers, max_rows}
-use Rattle.table.specs.Rows.{Row, seen, in_halves, room, row_at, rows_of}
+use Rattle.table.specs.Rows.{Row, seen, in_halves, room, row_at, rows_of, rows_all}
 use Rattle.table.specs.declared.rows.Row as code
 use Rattle.table.proofs.Columns.{front_alike, row_at_lem}
-use Rattle.table.proofs.laws.Rows.{length_rows_of, rows_split, all_of, rows_cut, rows_first, rows_none}
-use Rattle.path.specs.Inherit.{rows_all, in_space, inherits, resolved, all, lacks, or_lacks, lacking, replaced, count_of}
+use Rattle.table.proofs.laws.Rows.{length_rows_of, rows_split, rows_cut, rows_first, rows_none}
+use Rattle.path.specs.Inherit.{in_space, inherits, resolved, all, lacks, or_lacks, lacking, replaced, count_of}
 use Rattle.path.proofs.Parts.{rows_got, space_yes, space_no, lacking-append, lacking_last, resolved_last, few_replaced}
 use Rattle.path.specs.declared.inherits.Uninherited.TheVariants as uninherited
 
@@ -60,11 +60,11 @@ module _ {t : List ℕ} {s k n : ℕ} (h : Counting t s k n) where
 
 -- o is what the definition gives for the whole; the rest is yet to be asked, cut into rows
 pub record Asking (o : Bool) (rest : List ℕ) (size : ℕ) : Type 0 where
-  pub same : inherits (all_of rest) ≡ o
+  pub same : inherits (rows_all rest) ≡ o
   pub row : size ≡ row_numbers
 
-pub ask_start : (t : List ℕ) (n : ℕ) (rest : List ℕ) (size : ℕ) → n ≤ room t → rest ≡ take (row_numbers * n) t → size ≡ row_numbers → Asking (inherits (rows_of n t)) rest size
-ask_start t n rest size h e f = record { same = rw (e, rows_cut n t h) refl; row = f }
+pub ask_start : (t rest : List ℕ) (size : ℕ) → rest ≡ t → size ≡ row_numbers → Asking (inherits (rows_all t)) rest size
+ask_start t rest size e f = record { same = rw e refl; row = f }
 
 module _ {o : Bool} {rest : List ℕ} {size : ℕ} (h : Asking o rest size) where
   -- no row is left
@@ -87,7 +87,7 @@ module _ {o : Bool} {rest : List ℕ} {size : ℕ} (h : Asking o rest size) wher
     others : drop row_numbers rest ≡ next
     others = rw p (ap (λ (i : ℕ). drop i (row ++ next)) (sym (l ∙ h.row)) ∙ drop-append_seam row next)
 
-    ask_next : pick (eqb m 1) true (inherits (all_of next)) ≡ o
+    ask_next : pick (eqb m 1) true (inherits (rows_all next)) ≡ o
     ask_next = rw (rows_first rest long, first, others, ← e) at h.same
 
     -- it inherits

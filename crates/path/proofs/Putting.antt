@@ -6,10 +6,10 @@ use native.Mathlib.Nat.{sub-zero}
 use native.Mathlib.Omega.{arith}
 use lib.ListN.{length, length-append}
 use borrow.Author.Tests.{ne_eqb}
-use Rattle.table.specs.Rows.{Row, seen, in_halves, room, row_at, with_row, rows_of, with_rows}
+use Rattle.table.specs.Rows.{Row, seen, in_halves, room, row_at, with_row, rows_of, with_rows, rows_all}
 use Rattle.table.specs.declared.rows.Row as code
 use Rattle.table.proofs.laws.Rows.{length_with_row, length-with_rows, with_rows-append, with_rows_swap, rows_kept, length_rows_of}
-use Rattle.path.specs.Inherit.{rows_all, in_space, resolved, Spaces, all, lacks, or_lacks, lacking, replaced, up_to, Filling}
+use Rattle.path.specs.Inherit.{in_space, resolved, Spaces, all, lacks, or_lacks, lacking, replaced, up_to, Filling}
 use Rattle.path.proofs.Parts.{rows_got, space_yes, space_no, first_of, lacking_last, resolved_last, no_fewer}
 
 -- ROWS UP TO A PLACE

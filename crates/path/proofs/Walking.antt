@@ -11,8 +11,8 @@ use Rattle.number.specs.Halves.{halves}
 use Rattle.number.specs.declared.halves.Halves.{Halves}
 use Rattle.number.proofs.Picks.{rest_of}
 use Rattle.table.specs.Sizes.{row_numbers}
-use Rattle.table.specs.Rows.{Row, room, row_at, rows_in}
-use Rattle.table.proofs.laws.Rows.{all_of, rows_cut, rows_first, rows_none}
+use Rattle.table.specs.Rows.{Row, room, row_at, rows_in, rows_all}
+use Rattle.table.proofs.laws.Rows.{rows_cut, rows_first, rows_none}
 use Rattle.path.specs.Walk.{Walked, within, passed, gap, counted, stopped, against, walk, meet_of, walked_of}
 use Rattle.path.specs.declared.walks.Meet.{Meet}
 use Rattle.path.specs.declared.walks.Meet.TheVariants as meet
@@ -63,7 +63,7 @@ added_counted k w = let e : k + suc w.pairs ≡ k + 1 + w.pairs = omega arith in
 
 -- w is what the definition gives for the whole; the two runs are left, and each pair so far took a row off one of them
 pub record Walking (w : Walked) (left held : List ℕ) (pairs : ℕ) : Type 0 where
-  pub same : added pairs (walk (all_of left) (all_of held)) ≡ w
+  pub same : added pairs (walk (rows_all left) (rows_all held)) ≡ w
   pub fits : pairs + (room left + room held) < 2 ^ 64
 
 -- all rows are left
@@ -86,7 +86,7 @@ module _ {w : Walked} {left held : List ℕ} {pairs : ℕ} (h : Walking w left h
   pub walk_end : length left < row_numbers → record { missing = None; pairs = pairs } ≡ walked_of w
   unfolding walk
   walk_end p =
-      let s : added pairs (walk [] (all_of held)) ≡ w = rw (rows_none left p) at h.same in
+      let s : added pairs (walk [] (rows_all held)) ≡ w = rw (rows_none left p) at h.same in
       let e : pairs ≡ pairs + 0 = omega arith in
       ap (λ (k : ℕ). record { missing = None; pairs = k }) e ∙ ap (λ (y : Walked). walked_of y) s
 
@@ -100,15 +100,15 @@ module _ {w : Walked} {left held : List ℕ} {pairs : ℕ} (h : Walking w left h
         → r ≡ record { missing = Some (record { space = s; value = l }); pairs = pairs } → r ≡ walked_of w
     unfolding walk against
     walk_out q a b d =
-        let s : added pairs (walk (row_at left 0 ∷ all_of (drop row_numbers left)) []) ≡ w = rw (rows_first left p, rows_none held q) at h.same in
+        let s : added pairs (walk (row_at left 0 ∷ rows_all (drop row_numbers left)) []) ≡ w = rw (rows_first left p, rows_none held q) at h.same in
         let z : pairs ≡ pairs + 0 = omega arith in
         d ∙ rw (a, b) (ap (λ (k : ℕ). record { missing = Some (record { space = (row_at left 0).space; value = halves (row_at left 0).low }); pairs = k }) z ∙ ap (λ (y : Walked). walked_of y) s)
 
     module _ (q : row_numbers ≤ length held) {x : Meet} (d : x ≡ meet_of (row_at left 0) (row_at held 0)) where
-      opened : added pairs (walk (row_at left 0 ∷ all_of (drop row_numbers left)) (row_at held 0 ∷ all_of (drop row_numbers held))) ≡ w
+      opened : added pairs (walk (row_at left 0 ∷ rows_all (drop row_numbers left)) (row_at held 0 ∷ rows_all (drop row_numbers held))) ≡ w
       opened = rw (rows_first left p, rows_first held q) at h.same
 
-      on : (v : Walked) → walk (row_at left 0 ∷ all_of (drop row_numbers left)) (row_at held 0 ∷ all_of (drop row_numbers held)) ≡ counted v → added (pairs + 1) v ≡ w
+      on : (v : Walked) → walk (row_at left 0 ∷ rows_all (drop row_numbers left)) (row_at held 0 ∷ rows_all (drop row_numbers held)) ≡ counted v → added (pairs + 1) v ≡ w
       on v s = sym (added_counted pairs v) ∙ ap (λ (y : Walked). added pairs y) (sym s) ∙ opened
 
       -- the own row lies within the issuer's
@@ -132,6 +132,6 @@ module _ {w : Walked} {left held : List ℕ} {pairs : ℕ} (h : Walking w left h
       -- neither
       pub walk_stops : {n : Halves} → x ≡ meet.Apart n → {s : ℕ} {r : answer.Walked} → s ≡ (row_at left 0).space → r ≡ record { missing = Some (record { space = s; value = n }); pairs = pairs + 1 } → r ≡ walked_of w
       walk_stops {n} m e y =
-          let (s, g) = halt (row_at left 0) (row_at held 0) (all_of (drop row_numbers left)) (all_of (drop row_numbers held)) n (sym d ∙ m) in
+          let (s, g) = halt (row_at left 0) (row_at held 0) (rows_all (drop row_numbers left)) (rows_all (drop row_numbers held)) n (sym d ∙ m) in
           y ∙ ap₂ (λ (i : ℕ) (k : Halves). record { missing = Some (record { space = i; value = k }); pairs = pairs + 1 }) e g
           ∙ ap (λ (k : Walked). walked_of (added pairs k)) (sym s) ∙ ap (λ (k : Walked). walked_of k) opened

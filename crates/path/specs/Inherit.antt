@@ -52,10 +52,6 @@ inherit n own m issuer =
 
 -- WHAT THE CODE SAYS
 
--- all rows of a run
-abbrev pub rows_all : List ℕ → List Row
-rows_all t = rows_of (room t) t
-
 -- whether one of the rows inherits
 abbrev pub inherits : List Row → Bool
 inherits [] = false

@@ -1,6 +1,6 @@
 // Inheritance: "where it inherits, what its issuer holds there". Inherit rows are replaced by the issuer's rows of their space, in place.
 ghost use Rattle.std.specs.Prelude.{◌≤◌, ◌≡◌, length};
-ghost use Rattle.table.specs.Rows.{seen, room, rows_of, with_rows};
+ghost use Rattle.table.specs.Rows.{seen, rows_of, rows_all, with_rows};
 ghost use Rattle.path.specs.Inherit as spec;
 
 use table::rows;
@@ -16,7 +16,7 @@ pub enum Uninherited {
 
 // How many of the issuer's rows are in the space.
 fn count_in(issuer: &[u64], space: u64) -> usize
-    ensures { result ≡ length (spec.in_space space (spec.rows_all issuer.now)) }
+    ensures { result ≡ length (spec.in_space space (rows_all issuer.now)) }
 {
     let mut n: usize = 0;
     for k in 0..issuer.len() / rows::ROW {
@@ -29,7 +29,7 @@ fn count_in(issuer: &[u64], space: u64) -> usize
 
 // How many rows a row is after inheritance.
 fn count_row(row: Row, issuer: &[u64]) -> usize
-    ensures { result ≡ length (spec.replaced (spec.rows_all issuer.now) (seen row)) }
+    ensures { result ≡ length (spec.replaced (rows_all issuer.now) (seen row)) }
 {
     if row.inherit == 1 {
         return count_in(issuer, row.space);
@@ -37,13 +37,12 @@ fn count_row(row: Row, issuer: &[u64]) -> usize
     1
 }
 
-// How many rows the first n rows are after inheritance, by the lowest space first. More than a table has are counted as one more.
-fn count_all(own: &[u64], n: usize, issuer: &[u64]) -> Result<usize, Uninherited>
-    requires { n ≤ room own.now }
-    ensures { result ≡ spec.count_of (spec.rows_all issuer.now) (rows_of n own.now) }
+// How many rows the own rows are after inheritance, by the lowest space first. More than a table has are counted as one more.
+fn count_all(own: &[u64], issuer: &[u64]) -> Result<usize, Uninherited>
+    ensures { result ≡ spec.count_of (rows_all issuer.now) (rows_all own.now) }
 {
     let mut total: usize = 0;
-    for k in 0..n {
+    for k in 0..own.len() / rows::ROW {
         let row = rows::get(own, k);
         let more = count_row(row, issuer);
         if more == 0 {
@@ -56,8 +55,8 @@ fn count_all(own: &[u64], n: usize, issuer: &[u64]) -> Result<usize, Uninherited
 
 // Writes the issuer's rows of a space up to row `end`, from the last to the first. Returns where they start.
 fn put_space(own: &mut [u64], end: usize, issuer: &[u64], space: u64) -> usize
-    requires { length (spec.in_space space (spec.rows_all issuer.now)) ≤ end }
-    ensures { (result, own.new) ≡ spec.up_to own.old end (spec.in_space space (spec.rows_all issuer.now)) }
+    requires { length (spec.in_space space (rows_all issuer.now)) ≤ end }
+    ensures { (result, own.new) ≡ spec.up_to own.old end (spec.in_space space (rows_all issuer.now)) }
 {
     let mut w = end;
     for k in (0..issuer.len() / rows::ROW).rev() {
@@ -72,8 +71,8 @@ fn put_space(own: &mut [u64], end: usize, issuer: &[u64], space: u64) -> usize
 
 // Writes what a row is after inheritance up to row `end`. Returns where it starts.
 fn put_row(own: &mut [u64], end: usize, issuer: &[u64], row: Row) -> usize
-    requires { length (spec.replaced (spec.rows_all issuer.now) (seen row)) ≤ end }
-    ensures { (result, own.new) ≡ spec.up_to own.old end (spec.replaced (spec.rows_all issuer.now) (seen row)) }
+    requires { length (spec.replaced (rows_all issuer.now) (seen row)) ≤ end }
+    ensures { (result, own.new) ≡ spec.up_to own.old end (spec.replaced (rows_all issuer.now) (seen row)) }
 {
     if row.inherit == 1 {
         return put_space(own, end, issuer, row.space);
@@ -84,8 +83,8 @@ fn put_row(own: &mut [u64], end: usize, issuer: &[u64], row: Row) -> usize
 
 // Writes the rows after inheritance up to row `total`, from the last to the first: no row is written over before it is read.
 fn put_all(own: &mut [u64], n: usize, issuer: &[u64], total: usize)
-    requires { spec.Filling (spec.rows_all issuer.now) own.old n total }
-    ensures { own.new ≡ with_rows own.old 0 (spec.resolved (spec.rows_all issuer.now) (rows_of n own.old)) }
+    requires { spec.Filling (rows_all issuer.now) own.old n total }
+    ensures { own.new ≡ with_rows own.old 0 (spec.resolved (rows_all issuer.now) (rows_of n own.old)) }
 {
     let mut w = total;
     for k in (0..n).rev() {
@@ -94,12 +93,11 @@ fn put_all(own: &mut [u64], n: usize, issuer: &[u64], total: usize)
     }
 }
 
-// Whether one of the first n rows inherits. Most certificates have no such row, and are left as they are.
-fn any_inherits(own: &[u64], n: usize) -> bool
-    requires { n ≤ room own.now }
-    ensures { result ≡ spec.inherits (rows_of n own.now) }
+// Whether one of the own rows inherits. Most certificates have no such row, and are left as they are.
+fn any_inherits(own: &[u64]) -> bool
+    ensures { result ≡ spec.inherits (rows_all own.now) }
 {
-    for row in own[..rows::ROW * n].chunks_exact(rows::ROW) {
+    for row in own.chunks_exact(rows::ROW) {
         if rows::inherit(row, 0) == 1 {
             return true;
         }
@@ -116,14 +114,15 @@ pub fn inherit(own: &mut [u64], n: usize, issuer: &[u64], m: usize) -> Result<us
         return Err(Uninherited::Short);
     }
     let count = rows::count(own, n);
-    if !any_inherits(own, count) {
+    let listed = &own[..rows::ROW * count];
+    if !any_inherits(listed) {
         if rows::ROWS < count {
             return Err(Uninherited::TooMany);
         }
         return Ok(count);
     }
     let issuer = &issuer[..rows::ROW * rows::count(issuer, m)];
-    let total = count_all(own, count, issuer)?;
+    let total = count_all(listed, issuer)?;
     if rows::ROWS < total {
         return Err(Uninherited::TooMany);
     }

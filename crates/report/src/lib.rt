@@ -4,12 +4,13 @@
 
 ghost use Rattle.std.specs.Prelude.{◌+◌, ◌≤◌, ◌<◌, ◌≡◌, [], length, drop};
 ghost use Rattle.number.specs.Halves.{whole};
-ghost use Rattle.table.specs.Rows.{room, rows_of, seen};
+ghost use Rattle.table.specs.Rows.{rows_all, seen};
 ghost use Rattle.report.specs.Text as text;
 ghost use Rattle.report.specs.Reports.{put};
 
 use der::writing;
 use number::halves::Halves;
+use path::replies::Accepted;
 use table::rows;
 use table::rows::Row;
 use values::readings::Refused;
@@ -138,28 +139,28 @@ impl<'a> Text<'a> {
     }
 
     // The first n rows of a table, a line each.
-    fn rows(&mut self, table: &[u64], n: usize)
-        requires { (n ≤ room table.now) × (self.old.at + length (text.row_lines (rows_of n table.now)) ≤ length self.old.out.now) }
+    fn rows(&mut self, table: &[u64])
+        requires { self.old.at + length (text.row_lines (rows_all table.now)) ≤ length self.old.out.now }
         ensures same_run { self.new.out.ghost_name ≡ self.old.out.ghost_name }
-        ensures written { (self.new.at, self.new.out.now) ≡ put self.old.out.now self.old.at (text.row_lines (rows_of n table.now)) }
+        ensures written { (self.new.at, self.new.out.now) ≡ put self.old.out.now self.old.at (text.row_lines (rows_all table.now)) }
     {
-        for k in 0..n {
+        for k in 0..table.len() / rows::ROW {
             self.row(rows::get(table, k));
         }
     }
 }
 
 // "`ok`, rows, pairs", and a line for each of the first n rows of the table.
-fn put_ok(out: &mut [u8], count: usize, pairs: usize, table: &[u64], n: usize) -> usize
-    requires { (n ≤ room table.now) × (length (text.ok_text count pairs (rows_of n table.now)) ≤ length out.old) }
-    ensures { (result, out.new) ≡ put out.old 0 (text.ok_text count pairs (rows_of n table.now)) }
+fn put_ok(out: &mut [u8], done: Accepted, table: &[u64]) -> usize
+    requires { length (text.ok_text done.rows done.pairs (rows_all table.now)) ≤ length out.old }
+    ensures { (result, out.new) ≡ put out.old 0 (text.ok_text done.rows done.pairs (rows_all table.now)) }
 {
     let mut text = Text { out, at: 0 };
     text.put(b"ok");
-    text.field(count as u64);
-    text.field(pairs as u64);
+    text.field(done.rows as u64);
+    text.field(done.pairs as u64);
     text.put(b"\n");
-    text.rows(table, n);
+    text.rows(table);
     text.at
 }
 

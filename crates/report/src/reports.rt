@@ -18,8 +18,8 @@ pub fn report(reply: Reply, table: &[u64], out: &mut [u8]) -> usize
     }
     match reply {
         Ok(done) => {
-            let most = done.rows.min(rows::ROWS);
-            crate::put_ok(out, done.rows, done.pairs, table, rows::count(table, most))
+            let most = rows::count(table, done.rows.min(rows::ROWS));
+            crate::put_ok(out, done, &table[..rows::ROW * most])
         }
         Err(fault) => crate::put_no(out, fault),
     }

@@ -59,6 +59,10 @@ rows_of (suc n) t = front t ∷ rows_of n (drop row_numbers t)
 abbrev pub rows_in : ℕ → List ℕ → List Row
 rows_in n t = rows_of (min n (room t)) t
 
+-- all rows of a run
+abbrev pub rows_all : List ℕ → List Row
+rows_all t = rows_of (room t) t
+
 -- the run with its first n numbers zero
 unfoldable pub cleared : ℕ → List ℕ → List ℕ
 cleared n t = replicate (min n (length t)) 0 ++ drop n t

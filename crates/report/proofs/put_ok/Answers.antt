@@ -4,7 +4,7 @@ use mathlib.Core.List.{List, [], ◌∷◌}
 use Prim.Native.Nat.{ℕ, ◌≤◌}
 use lib.ListN.{length}
 use borrow.Author.Rules.{rules}
-use Rattle.table.specs.Rows.{Row, rows_of}
+use Rattle.table.specs.Rows.{Row, rows_all}
 use Rattle.report.specs.Text.{newline, field, row_lines, ok_text}
 use Rattle.report.specs.Reports.{put}
 use Rattle.report.proofs.Putting.{Reached, from_0, begin, first_fits, next_fits, onward, end}
@@ -48,26 +48,26 @@ module _ (out : List ℕ) (count pairs : ℕ) (rows : List Row) (fits : length (
         four h = onward three h
 
 pub put-requires : goal.put-requires
-put-requires c = fit c.args.out.now c.args.count c.args.pairs (rows_of c.args.n c.args.table.now) c.requires.1
+put-requires c = fit c.args.out.now c.args.done.rows c.args.done.pairs (rows_all c.args.table.now) c.requires
 
 pub field-requires : goal.field-requires
-field-requires c = next_fits (one c.args.out.now c.args.count c.args.pairs (rows_of c.args.n c.args.table.now) c.requires.1 c.put.ensures.written)
+field-requires c = next_fits (one c.args.out.now c.args.done.rows c.args.done.pairs (rows_all c.args.table.now) c.requires c.put.ensures.written)
 
 pub field-requires-2 : goal.field-requires-2
-field-requires-2 c = next_fits (two c.args.out.now c.args.count c.args.pairs (rows_of c.args.n c.args.table.now) c.requires.1 c.put.ensures.written c.field.ensures.written)
+field-requires-2 c = next_fits (two c.args.out.now c.args.done.rows c.args.done.pairs (rows_all c.args.table.now) c.requires c.put.ensures.written c.field.ensures.written)
 
 pub put-requires-2 : goal.put-requires-2
-put-requires-2 c = next_fits (three c.args.out.now c.args.count c.args.pairs (rows_of c.args.n c.args.table.now) c.requires.1 c.put.ensures.written c.field.ensures.written c.field-2.ensures.written)
+put-requires-2 c = next_fits (three c.args.out.now c.args.done.rows c.args.done.pairs (rows_all c.args.table.now) c.requires c.put.ensures.written c.field.ensures.written c.field-2.ensures.written)
 
 pub rows-requires : goal.rows-requires
 rows-requires c =
-    (c.requires.0, next_fits (four c.args.out.now c.args.count c.args.pairs (rows_of c.args.n c.args.table.now) c.requires.1 c.put.ensures.written c.field.ensures.written c.field-2.ensures.written c.put-2.ensures.written))
+    next_fits (four c.args.out.now c.args.done.rows c.args.done.pairs (rows_all c.args.table.now) c.requires c.put.ensures.written c.field.ensures.written c.field-2.ensures.written c.put-2.ensures.written)
 
 pub returns : goal.returns
 unfolding ok_text
 returns c =
     let e = end
     (onward
-    (four c.args.out.now c.args.count c.args.pairs (rows_of c.args.n c.args.table.now) c.requires.1 c.put.ensures.written c.field.ensures.written c.field-2.ensures.written c.put-2.ensures.written)
+    (four c.args.out.now c.args.done.rows c.args.done.pairs (rows_all c.args.table.now) c.requires c.put.ensures.written c.field.ensures.written c.field-2.ensures.written c.put-2.ensures.written)
     c.rows.ensures.written) in
     search rules

@@ -29,7 +29,7 @@ use borrow.Author.Tests.{lt-ltb, le-ltb}
 use Rattle.number.specs.Tests.{pick}
 use Rattle.number.proofs.Picks.{below, pick_yes}
 use Rattle.table.specs.Sizes.{row_numbers, max_rows, table_numbers}
-use Rattle.table.specs.Rows.{Row, nothing, numbers, front, room, row_at, with_row, with_rows, rows_of, cleared}
+use Rattle.table.specs.Rows.{Row, nothing, numbers, front, room, row_at, with_row, with_rows, rows_of, rows_all, cleared}
 use Rattle.table.proofs.Columns.{row_at_lem, front_numbers, front_alike}
 use Rattle.table.proofs.Listing.{rows_more}
 
@@ -160,24 +160,20 @@ rows_split (suc k) m t =
 pub rows_read : (k : ℕ) (t : List ℕ) → k < room t → rows_of (k + 1) t ≡ rows_of k t ++ (row_at t k ∷ [])
 rows_read k t h = ap (λ (i : ℕ). rows_of i t) (add-one k) ∙ rows_last k t ∙ ap (λ (r : Row). rows_of k t ++ (r ∷ [])) (sym (row_at_lem t k h))
 
--- all rows of a run
-abbrev pub all_of : List ℕ → List Row
-all_of t = rows_of (room t) t
-
 -- the rows of a run that is cut off after n rows
-pub rows_cut : (n : ℕ) (t : List ℕ) → n ≤ room t → all_of (take (row_numbers * n) t) ≡ rows_of n t
+pub rows_cut : (n : ℕ) (t : List ℕ) → n ≤ room t → rows_all (take (row_numbers * n) t) ≡ rows_of n t
 rows_cut n t h =
     let e : room (take (row_numbers * n) t) ≡ n = rw (length-take-le (row_numbers * n) t (omega arith)) (omega arith) in
     rw e (rows_alike n (take (row_numbers * n) t) t (λ i b. get_or-take (row_numbers * n) t i 0 b))
 
 -- all rows of a run are its first one and those after it
-pub rows_first : (t : List ℕ) → row_numbers ≤ length t → all_of t ≡ row_at t 0 ∷ all_of (drop row_numbers t)
+pub rows_first : (t : List ℕ) → row_numbers ≤ length t → rows_all t ≡ row_at t 0 ∷ rows_all (drop row_numbers t)
 rows_first t h =
     let e : room t ≡ suc (room (drop row_numbers t)) = rw length-drop (omega arith) in
     rw e (rows_more t 0 (room (drop row_numbers t)) (omega arith))
 
 -- a run too short for a row has none
-pub rows_none : (t : List ℕ) → length t < row_numbers → all_of t ≡ []
+pub rows_none : (t : List ℕ) → length t < row_numbers → rows_all t ≡ []
 unfolding rows_of
 rows_none t h = let e : room t ≡ 0 = omega arith in rw e
 

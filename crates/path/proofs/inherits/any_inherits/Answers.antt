@@ -3,7 +3,7 @@ use Rattle.path.proofs.Counting.{ask_start, ask_yes, ask_no, ask_end}
 use Rattle.path.proofs.inherits.any_inherits.Goals as goal
 
 pub loop-row-init : goal.loop-row-init
-loop-row-init c = rw c.into_iter-row-iterator.ensures.into_iter_gives (ask_start c.args.own.now c.args.n _ _ c.requires c.chunks_exact-row-items.ensures.rest c.chunks_exact-row-items.ensures.size)
+loop-row-init c = rw c.into_iter-row-iterator.ensures.into_iter_gives (ask_start c.args.own.now _ _ c.chunks_exact-row-items.ensures.rest c.chunks_exact-row-items.ensures.size)
 
 pub returns-then-inherit-eq1 : goal.returns-then-inherit-eq1
 returns-then-inherit-eq1 c = ask_yes c.loop-row.invariant _ _ c.in-Some.ensures.steps.1.0 c.in-Some.ensures.steps.1.1 c.inherit.ensures c.if-inherit-eq1.true

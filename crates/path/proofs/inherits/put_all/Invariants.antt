@@ -1,6 +1,6 @@
 use lib.ListN.{length}
-use Rattle.table.specs.Rows.{rows_of, with_rows}
-use Rattle.path.specs.Inherit.{rows_all, resolved}
+use Rattle.table.specs.Rows.{rows_of, with_rows, rows_all}
+use Rattle.path.specs.Inherit.{resolved}
 use Rattle.path.proofs.Putting.{Resolving}
 use Rattle.path.proofs.inherits.put_all.Given as goal
 

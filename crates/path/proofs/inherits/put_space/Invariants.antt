@@ -1,5 +1,6 @@
 use lib.ListN.{length}
-use Rattle.path.specs.Inherit.{rows_all, in_space, up_to}
+use Rattle.table.specs.Rows.{rows_all}
+use Rattle.path.specs.Inherit.{in_space, up_to}
 use Rattle.path.proofs.Putting.{Placing}
 use Rattle.path.proofs.inherits.put_space.Given as goal
 
