@@ -1,12 +1,53 @@
 // A number of up to 128 bits in its two halves of 64 bits, as a row of the table has it.
 // `==`, `<` and `<=` compare the numbers (proofs/laws/Orders): the upper halves come first.
+ghost use Rattle.std.proofs.Common.{rules};
+ghost use Rattle.std.specs.Cmp.{partial_order_from_own_ties};
+ghost use Rattle.std.specs.Cmp.Rules.{comparing};
+ghost use Rattle.std.specs.Ordering.{as_partial_cmp};
 ghost use Rattle.std.specs.Prelude.{◌≡◌, ◌+◌, ltb};
 ghost use Rattle.number.specs.Halves as spec;
 
-#[derive(Clone, Copy, PartialEq, Eq, PartialOrd, Ord)]
+use std::cmp::Ordering;
+
+#[derive(Clone, Copy, PartialEq, Eq)]
 pub struct Halves {
     pub upper: u64,
     pub lower: u64,
+}
+
+impl From<Halves> for u128 {
+    // Returns the number of the two halves, which are its halves.
+    fn from(a: Halves) -> u128
+        ensures whole { result ≡ spec.whole a }
+        ensures halves { spec.halves result ≡ a }
+    {
+        u128::from(a.upper) << 64 | u128::from(a.lower)
+    }
+}
+
+// The order that a derive would give, by one comparison of 128 bits: a derive's two, one of each half, take more instructions.
+impl Ord for Halves {
+    ghost cmp = { spec.order };
+
+    ghost total = { Prim.search (comparing, rules) };
+
+    ghost matches_partial_cmp = { Prim.search (comparing, rules) };
+
+    ghost matches_eq = { Prim.search (comparing, rules) };
+
+    fn cmp(&self, other: &Halves) -> Ordering {
+        u128::from(*self).cmp(&u128::from(*other))
+    }
+}
+
+impl PartialOrd for Halves {
+    ghost partial_cmp = { as_partial_cmp spec.order };
+
+    ghost laws = { partial_order_from_own_ties (Prim.search (comparing, rules)) (Prim.search (comparing, rules)) };
+
+    fn partial_cmp(&self, other: &Halves) -> Option<Ordering> {
+        Some(self.cmp(other))
+    }
 }
 
 pub const ZERO: Halves = Halves { upper: 0, lower: 0 };

@@ -10,6 +10,7 @@ use Rattle.number.proofs.address.from_halves.Reads as from_halves
 use Rattle.number.proofs.address.spelled.Reads as spelled
 use Rattle.number.proofs.address.to_halves.Reads as to_halves
 use Rattle.number.proofs.halves.Width.bits.Reads as bits
+use Rattle.number.proofs.halves.U128FromHalves.from.Reads as wide
 use Rattle.number.proofs.halves.HalvesPartialEq.eq.Reads as eq
 use Rattle.number.proofs.halves.HalvesPartialOrd.partial_cmp.Reads as partial_cmp
 use Rattle.number.proofs.halves.HalvesOrd.cmp.Reads as cmp
@@ -49,6 +50,10 @@ to_halves_one_reply κs a r r' s s' p q = one_reply p q
 -- halves::Width::bits
 pub bits_one_reply : OneReply bits.Post (λ κs r s. r)
 bits_one_reply κs a r r' s s' p q = one_reply p q
+
+-- halves::Halves: `u128::from`
+pub wide_one_reply : OneReply wide.Post (λ κs r s. r)
+wide_one_reply κs a r r' s s' p q = one_reply p.0 q.0
 
 -- halves::Halves: `==`
 pub same_one_reply : OneReply eq.Post (λ κs r s. r)
