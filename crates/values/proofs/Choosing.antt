@@ -23,13 +23,13 @@ use Rattle.values.specs.Faults.{Fault, at, moved, later}
 use Rattle.values.specs.Spaces.{space_number}
 use Rattle.values.specs.Elements.{elements_of}
 use Rattle.values.specs.Choices.{Choice, inherit, listed, inherited, list_at, inherit_at, listed_at, choice_at, listed_rows, inherit_row}
-use Rattle.values.specs.Into.{CountedInto, ChosenInto}
+use Rattle.values.specs.Into.{Pushed, CountedInto, ChosenInto}
 use Rattle.values.specs.declared.elements.Space.{Space}
 use Rattle.values.proofs.Joins.{tag_inside, tag_place}
-use Rattle.values.proofs.Filling.{stands_still, stands_row, chosen_is, chosen_not}
+use Rattle.values.proofs.Filling.{stands_still, stands_row, pushed_not, pushed_is, chosen_is, chosen_not}
 use Rattle.values.proofs.Answers.{counted_bad}
 use Rattle.der.specs.Opening.{Opening}
-use Rattle.std.specs.Prelude.{Ok, Err}
+use Rattle.std.specs.Prelude.{Result, Ok, Err}
 use Rattle.values.specs.Faults.{Read, Taken}
 
 -- INHERIT
@@ -52,16 +52,28 @@ module _ (a n : ℕ) (s t : List ℕ) (r : Opening) (p : r ≡ opening_of NULL s
     inherit_contents h = chosen_not a s n t t _ _ (at 0 refusal.Contents) (inherit_by (isnt (at 0 refusal.Contents)) (rw (← g, h))) refl (omega arith) (stands_still t)
 
     -- there is no row for it
-    pub inherit_full : b ≡ true → max_rows ≤ n → ChosenInto a s n t (inherit_at n s) (Err (at 0 refusal.RowCount)) t
+    full : b ≡ true → max_rows ≤ n → ChosenInto a s n t (inherit_at n s) (Err (at 0 refusal.RowCount)) t
     unfolding inherited
-    inherit_full h l = chosen_not a s n t t _ _ (at 0 refusal.RowCount) (inherit_by (isnt (at 0 refusal.RowCount)) (rw (← g, h, le-leb max_rows n l))) refl (omega arith) (stands_still t)
+    full h l = chosen_not a s n t t _ _ (at 0 refusal.RowCount) (inherit_by (isnt (at 0 refusal.RowCount)) (rw (← g, h, le-leb max_rows n l))) refl (omega arith) (stands_still t)
 
     -- its row is written
-    pub inherit_is : (t' : List ℕ) (row : code.Row) → b ≡ true → n < max_rows → row ≡ in_halves (inherit_row a) → t' ≡ with_row t n (seen row) → ChosenInto a s n t (inherit_at n s) (Ok ((n + 1), e)) t'
+    written : (t' : List ℕ) (row : code.Row) → b ≡ true → n < max_rows → row ≡ in_halves (inherit_row a) → t' ≡ with_row t n (seen row) → ChosenInto a s n t (inherit_at n s) (Ok ((n + 1), e)) t'
     unfolding inherited with_rows
-    inherit_is t' row h l u w =
+    written t' row h l u w =
         let z : t' ≡ with_row t n (inherit_row a) = rw u at w in
         chosen_is a s n t t' _ _ inherit e (inherit_by (is inherit) (rw (← g, h, lt-leb max_rows n l))) refl (tag_inside NULL s p k e q) z (rw z (stands_row t n (inherit_row a) l))
+
+    -- by what `push` did with it
+    module _ (row : code.Row) (h : b ≡ true) (u : row ≡ in_halves (inherit_row a)) (n' : ℕ) (t' : List ℕ) (w : Result (Unit {0}) Refusal) (j : Pushed n t (seen row) w n' t') where
+      pub inherit_full : (f : Refusal) → w ≡ Err f → ChosenInto a s n t (inherit_at n s) (Err (at 0 f)) t'
+      inherit_full f o =
+          let (l, x, y, z) = pushed_not n t (seen row) w n' t' j f o in
+          rw (x, z) (full h l)
+
+      pub inherit_is : (y : Unit {0}) → w ≡ Ok y → ChosenInto a s n t (inherit_at n s) (Ok (n', e)) t'
+      inherit_is y o =
+          let (l, x, z) = pushed_is n t (seen row) w n' t' j y o in
+          rw x (written t' row h l u z)
 
 -- A LIST
 

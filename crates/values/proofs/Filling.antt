@@ -2,6 +2,7 @@
 --     counted_is, counted_not      `CountedInto` where all was read, and where there is a refusal
 --     chosen_is, chosen_not        `ChosenInto` likewise.      family_is, family_not        `FamilyInto`
 --     stands_still, stands_row, stands_on     a table that nothing was written to, one with a row more, and one thing after another
+--     pushed_not, pushed_is        what `push` did where it refused the row, and where it wrote it
 use mathlib.Core.Path.{◌≡◌, refl, ◌∙◌}
 use mathlib.Core.List.{List}
 use Prim.Native.Nat.{ℕ, ◌+◌, ◌≤◌, ◌<◌}
@@ -12,9 +13,10 @@ use Rattle.table.proofs.laws.Rows.{length_with_row, with_row_later}
 use Rattle.der.specs.Parts.{Contents, is, isnt, Part, part, nopart}
 use Rattle.values.specs.Faults.{Fault}
 use Rattle.values.specs.Choices.{Choice, choice_rows}
-use Rattle.values.specs.Into.{Stands, CountedInto, ChosenInto, FamilyInto}
+use Rattle.values.specs.Into.{Stands, Pushed, CountedInto, ChosenInto, FamilyInto}
+use Rattle.number.specs.declared.refusal.Refusal.{Refusal}
 use Rattle.values.specs.Faults.{Read, Taken}
-use Rattle.std.specs.Prelude.{Ok, Err}
+use Rattle.std.specs.Prelude.{Result, Ok, Err}
 
 -- nothing was written
 pub stands_still : (t : List ℕ) → Stands t t
@@ -27,6 +29,15 @@ stands_row t n r h = record { long = length_with_row t n r; later = with_row_lat
 -- more was written after that
 pub stands_on : {t t' t'' : List ℕ} → Stands t t' → Stands t' t'' → Stands t t''
 stands_on a b = record { long = b.long ∙ a.long; later = b.later ∙ a.later }
+
+module _ (n : ℕ) (t : List ℕ) (row : Row) (r : Result (Unit {0}) Refusal) (n' : ℕ) (t' : List ℕ) (h : Pushed n t row r n' t') where
+  -- it is refused
+  pub pushed_not : (f : Refusal) → r ≡ Err f → Pushed n t row (Err f) n' t'
+  pushed_not f e = rw e at h
+
+  -- it is written
+  pub pushed_is : (u : Unit {0}) → r ≡ Ok u → Pushed n t row (Ok u) n' t'
+  pushed_is u e = rw e at h
 
 module _ {X : Type 0} (rows : X → List Row) (m n : ℕ) (t t' : List ℕ) (o : Contents X Fault) (r : Read ℕ) where
   -- all was read

@@ -31,13 +31,14 @@ use Rattle.values.specs.Ids.{id_at}
 use Rattle.values.specs.Elements.{element_at, Place, least_at, admit_row, element_step, elements_of}
 use Rattle.values.specs.Choices.{listed_row, listed_rows}
 use Rattle.values.specs.Seen.{Reached, found_seen, FoundIn}
-use Rattle.values.specs.Into.{Stands, CountedInto}
+use Rattle.values.specs.Into.{Stands, Pushed, CountedInto}
+use Rattle.number.specs.declared.refusal.Refusal.{Refusal}
 use Rattle.values.specs.declared.elements.Space.{Space}
 use Rattle.values.specs.declared.elements.Space.TheVariants as space
 use Rattle.values.proofs.laws.Choices.{listed-length}
 use Rattle.values.proofs.Wholes.{before}
-use Rattle.values.proofs.Filling.{stands_still, stands_row, stands_on, counted_is, counted_not}
-use Rattle.std.specs.Prelude.{Ok, Err}
+use Rattle.values.proofs.Filling.{stands_still, stands_row, stands_on, pushed_not, pushed_is, counted_is, counted_not}
+use Rattle.std.specs.Prelude.{Result, Ok, Err}
 
 -- THE ORDER
 
@@ -188,14 +189,10 @@ module _ {a : Space} {s : List ℕ} {count : ℕ} {t₀ t rest : List ℕ} {n : 
       pub reading_early : b ≡ true → Promised a s count t₀ (Err (at (length s - length rest) refusal.ElementOrder)) t
       reading_early q = refused (at (length s - length rest) refusal.ElementOrder) h (step_early a _ rest r e row k p (sym g ∙ q)) (omega arith)
 
-      -- at the rows
-      pub reading_full : b ≡ false → max_rows ≤ n → Promised a s count t₀ (Err (at (length s - length rest) refusal.RowCount)) t
-      reading_full q l = refused (at (length s - length rest) refusal.RowCount) h (step_full a _ rest r e row k p (sym g ∙ q) l) (omega arith)
-
       -- one row more
-      pub reading_turn : (t' : List ℕ) → b ≡ false → n < max_rows → t' ≡ with_row t n (seen row) → Reading a s count t₀ t' (take (length rest - k) (drop k rest)) (n + 1) row.high
+      turned : (t' : List ℕ) → b ≡ false → n < max_rows → t' ≡ with_row t n (seen row) → Reading a s count t₀ t' (take (length rest - k) (drop k rest)) (n + 1) row.high
       unfolding least_at
-      reading_turn t' q l u =
+      turned t' q l u =
           let (x, y, z) = found_row (space_number a) (length rest) r i row k p in
           let w = shorter k rest h z.0 in
           let d = length-drop k rest in
@@ -212,6 +209,19 @@ module _ {a : Space} {s : List ℕ} {count : ℕ} {t₀ t rest : List ℕ} {n : 
             stands = rw u (stands_on v.stands (stands_row t n (seen row) l));
             inside = omega arith;
           })
+
+      module _ (q : b ≡ false) (n' : ℕ) (t' : List ℕ) (w : Result (Unit {0}) Refusal) (j : Pushed n t (seen row) w n' t') where
+        -- at the rows
+        pub reading_full : (f : Refusal) → w ≡ Err f → Promised a s count t₀ (Err (at (length s - length rest) f)) t'
+        reading_full f o =
+            let (l, x, y, z) = pushed_not n t (seen row) w n' t' j f o in
+            rw (x, z) (refused (at (length s - length rest) refusal.RowCount) h (step_full a _ rest r e row k p (sym g ∙ q) l) (omega arith))
+
+        -- the row is written
+        pub reading_turn : (u : Unit {0}) → w ≡ Ok u → Reading a s count t₀ t' (take (length rest - k) (drop k rest)) n' row.high
+        reading_turn u o =
+            let (l, y, z) = pushed_is n t (seen row) w n' t' j u o in
+            rw y (turned t' q l z)
 
 -- a turn leaves less
 pub turn_less : (a : ℕ) (r : Taken code.Row) (rest : List ℕ) (row : code.Row) (k : ℕ) → FoundIn a (length rest) r → r ≡ Ok (row, k) → 0 < length rest → length (take (length rest - k) (drop k rest)) < length rest

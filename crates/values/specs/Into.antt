@@ -1,17 +1,39 @@
--- What a reader leaves of the lent table t: its rows from row n on. Whatever it answers, the numbers after the first 3,072 stay.
-use Rattle.std.specs.Prelude.{ℕ, ◌+◌, ◌≤◌, ◌≡◌, List, length, drop}
-use Rattle.table.specs.Sizes.{table_numbers}
-use Rattle.table.specs.Rows.{Row, with_rows}
+-- What a reader answers, and leaves of the lent table t: its rows from row n on. Whatever it answers, the numbers after the first 3,072 stay.
+use Rattle.std.specs.Prelude.{ℕ, ◌+◌, ◌≤◌, ◌<◌, ◌≡◌, List, length, drop}
+use Rattle.number.specs.declared.refusal.Refusal.{Refusal}
+use Rattle.number.specs.declared.refusal.Refusal.TheVariants as refusal
+use Rattle.table.specs.Sizes.{max_rows, table_numbers}
+use Rattle.table.specs.Rows.{Row, with_row, with_rows}
 use Rattle.der.specs.Parts.{Contents, is, isnt, Part, part, nopart}
 use Rattle.values.specs.Faults.{Fault}
 use Rattle.values.specs.Choices.{Choice, choice_rows}
 use Rattle.values.specs.Faults.{Read, Taken}
-use Rattle.std.specs.Prelude.{Ok, Err}
+use Rattle.std.specs.Prelude.{Result, Ok, Err}
 
 -- the table is as long as it was, and its numbers after the first 3,072 are the same
 pub record Stands (t t' : List ℕ) : Type 0 where
   pub long : length t' ≡ length t
   pub later : drop table_numbers t' ≡ drop table_numbers t
+
+-- a row after n rows, or "row 513"
+abbrev pub Pushed : ℕ → List ℕ → Row → Result (Unit {0}) Refusal → ℕ → List ℕ → Type 0
+Pushed n t row (Ok u) n' t' = (n < max_rows) × (n' ≡ n + 1) × (t' ≡ with_row t n row)
+Pushed n t row (Err f) n' t' = (max_rows ≤ n) × (f ≡ refusal.RowCount) × (n' ≡ n) × (t' ≡ t)
+
+-- what the code answers, with the n rows that there are now
+abbrev pub counted : ℕ → Read (Unit {0}) → Read ℕ
+counted n (Ok u) = Ok n
+counted n (Err f) = Err f
+
+-- of a choice, with the octets that it took
+abbrev pub chosen : ℕ → Read ℕ → Taken ℕ
+chosen n (Ok end) = Ok (n, end)
+chosen n (Err f) = Err f
+
+-- of a family, with its space
+abbrev pub family : ℕ → Read ℕ → Read (ℕ × ℕ)
+family n (Ok a) = Ok (a, n)
+family n (Err f) = Err f
 
 -- the rows of all that was read of m octets, after n rows
 abbrev pub CountedInto : {X : Type 0} → (X → List Row) → ℕ → ℕ → List ℕ → Contents X Fault → (Read ℕ) → List ℕ → Type 0

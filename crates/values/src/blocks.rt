@@ -3,9 +3,10 @@ ghost use Rattle.std.specs.Prelude.{◌≡◌, ◌<◌, length};
 ghost use Rattle.values.specs.Blocks as spec;
 ghost use Rattle.values.specs.Tables.{blocks_rows};
 ghost use Rattle.values.specs.Seen.{space_seen, space_of_seen, SpaceIn};
-ghost use Rattle.values.specs.Into.{CountedInto, FamilyInto};
+ghost use Rattle.values.specs.Into.{CountedInto, FamilyInto, family};
 
 use crate::choices;
+use crate::counted::Rows;
 use crate::elements::Space;
 use crate::faults::{Fault, Read, Taken, after};
 use der::{heads, readers, strings, tags};
@@ -41,41 +42,38 @@ fn space_at(s: &[u8], least: u64) -> Taken<u64>
     Ok((space, end))
 }
 
-// The contents of a family: its space, its choice, then nothing. Its space and the rows so far.
-fn family_of(s: &[u8], least: u64, count: usize, table: &mut [u64]) -> Read<(u64, usize)>
-    ensures { FamilyInto (length s.now) count table.old (spec.family_of least count s.now) result table.new }
+// The contents of a family: its space, its choice, then nothing. Its space.
+fn family_of(s: &[u8], least: u64, rows: &mut Rows) -> Read<u64>
+    ensures same_table { rows.new.table.ghost_name ≡ rows.old.table.ghost_name }
+    ensures rows { FamilyInto (length s.now) rows.old.count rows.old.table.now (spec.family_of least rows.old.count s.now) (family rows.new.count result) rows.new.table.now }
 {
     let (space, k) = space_at(s, least)?;
     let rest = &s[k..];
-    let (n, j) = after(
-        k,
-        choices::read(Space::Addresses(space), rest, count, table),
-    )?;
+    let j = after(k, choices::read(Space::Addresses(space), rest, rows))?;
     if j < rest.len() {
         return Err(Fault::at(k + j, Refusal::OctetsLeft));
     }
-    Ok((space, n))
+    Ok(space)
 }
 
 // The families of s, into the table from row 0 on: "Rows ascend by space", so the next space is at least one more.
 fn families(s: &[u8], table: &mut [u64]) -> Read<usize>
     ensures { CountedInto blocks_rows (length s.now) 0 table.old (spec.families_of s.now) result table.new }
 {
+    let mut rows = Rows::new(table, 0);
     let mut rest = s;
     let mut least: u64 = 0;
-    let mut n: usize = 0;
     while 0 < rest.len() {
         let at = s.len() - rest.len();
         let (k, end) = match heads::open(tags::SEQUENCE, rest) {
             Ok(opening) => opening,
             Err(refusal) => return Err(Fault::at(at, refusal)),
         };
-        let (space, m) = after(at + k, family_of(&rest[k..end], least, n, table))?;
+        let space = after(at + k, family_of(&rest[k..end], least, &mut rows))?;
         least = space + 1;
-        n = m;
         rest = &rest[end..];
     }
-    Ok(n)
+    Ok(rows.count())
 }
 
 // Reads an IPAddrBlocks value into the table, from row 0 on.

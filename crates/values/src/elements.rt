@@ -5,15 +5,16 @@ ghost use Rattle.values.specs.Spaces.{space_number};
 ghost use Rattle.values.specs.Choices.{listed_rows};
 ghost use Rattle.values.specs.Elements as spec;
 ghost use Rattle.values.specs.Seen.{found_seen, FoundIn};
-ghost use Rattle.values.specs.Into.{CountedInto};
+ghost use Rattle.values.specs.Into.{CountedInto, counted};
 
+use crate::counted::Rows;
 use crate::faults::{Fault, Read, Taken, after};
 use crate::{addresses, ids};
 use number::halves;
 use number::halves::Halves;
 use number::refusal::Refusal;
 use table::rows::Row;
-use table::{rows, spaces};
+use table::spaces;
 
 // The lists that a value may have: addresses of a space, AS numbers, routing domain identifiers.
 #[derive(Clone, Copy)]
@@ -55,13 +56,13 @@ fn early(at: usize, last: Halves, low: Halves) -> bool
     at != 0 && !halves::past(last, low)
 }
 
-// Reads the elements of s into the table, from row `count` on.
-// Returns the rows so far, or the refusal and its place in s.
-pub fn read(space: Space, s: &[u8], count: usize, table: &mut [u64]) -> Read<usize>
-    ensures { CountedInto (listed_rows (space_number space)) (length s.now) count table.old (spec.elements_of space count s.now) result table.new }
+// Reads the elements of s into the table, after the rows so far.
+// Returns the refusal and its place in s, if there is one.
+pub fn read(space: Space, s: &[u8], rows: &mut Rows) -> Read<()>
+    ensures same_table { rows.new.table.ghost_name ≡ rows.old.table.ghost_name }
+    ensures rows { CountedInto (listed_rows (space_number space)) (length s.now) rows.old.count rows.old.table.now (spec.elements_of space rows.old.count s.now) (counted rows.new.count result) rows.new.table.now }
 {
     let mut rest = s;
-    let mut n = count;
     let mut last = halves::ZERO;
     while 0 < rest.len() {
         let at = s.len() - rest.len();
@@ -69,13 +70,11 @@ pub fn read(space: Space, s: &[u8], count: usize, table: &mut [u64]) -> Read<usi
         if early(at, last, row.low) {
             return Err(Fault::at(at, Refusal::ElementOrder));
         }
-        if rows::ROWS <= n {
-            return Err(Fault::at(at, Refusal::RowCount));
+        if let Err(refusal) = rows.push(row) {
+            return Err(Fault::at(at, refusal));
         }
-        rows::put(table, n, row);
         last = row.high;
         rest = &rest[k..];
-        n += 1;
     }
-    Ok(n)
+    Ok(())
 }

@@ -1,61 +1,66 @@
 // ASIdentifiers: "[0] AS numbers, then [1] routing domain identifiers, each optional, at least one" (RFC 3779, section 3.2.3).
-ghost use Rattle.std.specs.Prelude.{length};
+ghost use Rattle.std.specs.Prelude.{◌≡◌, length};
 ghost use Rattle.values.specs.Limits.{routing_domains};
 ghost use Rattle.values.specs.Spaces.{space_number};
 ghost use Rattle.values.specs.Choices.{choice_rows};
 ghost use Rattle.values.specs.Identifiers as spec;
 ghost use Rattle.values.specs.Tables.{identifiers_rows};
-ghost use Rattle.values.specs.Into.{CountedInto, ChosenInto};
+ghost use Rattle.values.specs.Into.{CountedInto, counted, ChosenInto, chosen};
 
+use crate::counted::Rows;
 use crate::elements::Space;
-use crate::faults::{Fault, Read, Taken, after};
+use crate::faults::{Fault, Read, after};
 use crate::{choices, limits};
 use der::{heads, readers, tags};
 use number::refusal::Refusal;
 
-// The member that s begins with: it "wraps NULL or a SEQUENCE", and nothing follows in it.
-fn member(tag: u8, space: Space, s: &[u8], count: usize, table: &mut [u64]) -> Taken<usize>
-    ensures { ChosenInto (space_number space) s.now count table.old (spec.member_at tag space count s.now) result table.new }
+// The member that s begins with: it "wraps NULL or a SEQUENCE", and nothing follows in it. Its end.
+fn member(tag: u8, space: Space, s: &[u8], rows: &mut Rows) -> Read<usize>
+    ensures same_table { rows.new.table.ghost_name ≡ rows.old.table.ghost_name }
+    ensures rows { ChosenInto (space_number space) s.now rows.old.count rows.old.table.now (spec.member_at tag space rows.old.count s.now) (chosen rows.new.count result) rows.new.table.now }
 {
     let (k, end) = heads::open(tag, s)?;
     let inner = &s[k..end];
-    let (n, j) = after(k, choices::read(space, inner, count, table))?;
+    let j = after(k, choices::read(space, inner, rows))?;
     if j < inner.len() {
         return Err(Fault::at(k + j, Refusal::OctetsLeft));
     }
-    Ok((n, end))
+    Ok(end)
 }
 
 // [1], and nothing after it: "any octet after [1] is 5".
-fn last(s: &[u8], count: usize, table: &mut [u64]) -> Read<usize>
-    ensures { CountedInto (choice_rows routing_domains) (length s.now) count table.old (spec.last_of count s.now) result table.new }
+fn last(s: &[u8], rows: &mut Rows) -> Read<()>
+    ensures same_table { rows.new.table.ghost_name ≡ rows.old.table.ghost_name }
+    ensures rows { CountedInto (choice_rows routing_domains) (length s.now) rows.old.count rows.old.table.now (spec.last_of rows.old.count s.now) (counted rows.new.count result) rows.new.table.now }
 {
-    let (n, end) = member(limits::RDI, Space::RoutingDomains, s, count, table)?;
+    let end = member(limits::RDI, Space::RoutingDomains, s, rows)?;
     if end < s.len() {
         return Err(Fault::at(end, Refusal::OctetsLeft));
     }
-    Ok(n)
+    Ok(())
 }
 
 // [0], and [1] or nothing after it.
-fn first(s: &[u8], count: usize, table: &mut [u64]) -> Read<usize>
-    ensures { CountedInto identifiers_rows (length s.now) count table.old (spec.first_of count s.now) result table.new }
+fn first(s: &[u8], rows: &mut Rows) -> Read<()>
+    ensures same_table { rows.new.table.ghost_name ≡ rows.old.table.ghost_name }
+    ensures rows { CountedInto identifiers_rows (length s.now) rows.old.count rows.old.table.now (spec.first_of rows.old.count s.now) (counted rows.new.count result) rows.new.table.now }
 {
-    let (n, end) = member(limits::ASNUM, Space::AsNumbers, s, count, table)?;
+    let end = member(limits::ASNUM, Space::AsNumbers, s, rows)?;
     if end < s.len() {
-        return after(end, last(&s[end..], n, table));
+        return after(end, last(&s[end..], rows));
     }
-    Ok(n)
+    Ok(())
 }
 
 // The members: [0] first, or [1] alone.
-fn members(s: &[u8], count: usize, table: &mut [u64]) -> Read<usize>
-    ensures { CountedInto identifiers_rows (length s.now) count table.old (spec.members_of count s.now) result table.new }
+fn members(s: &[u8], rows: &mut Rows) -> Read<()>
+    ensures same_table { rows.new.table.ghost_name ≡ rows.old.table.ghost_name }
+    ensures rows { CountedInto identifiers_rows (length s.now) rows.old.count rows.old.table.now (spec.members_of rows.old.count s.now) (counted rows.new.count result) rows.new.table.now }
 {
     if 0 < s.len() && s[0] == limits::ASNUM {
-        return first(s, count, table);
+        return first(s, rows);
     }
-    last(s, count, table)
+    last(s, rows)
 }
 
 // Reads an ASIdentifiers value into the table, from row `count` on.
@@ -67,9 +72,10 @@ pub fn read(value: &[u8], count: usize, table: &mut [u64]) -> Read<usize>
     if k == end {
         return Err(Fault::from(Refusal::EmptyList));
     }
-    let n = after(k, members(&value[k..end], count, table))?;
+    let mut rows = Rows::new(table, count);
+    after(k, members(&value[k..end], &mut rows))?;
     if end < value.len() {
         return Err(Fault::at(end, Refusal::OctetsLeft));
     }
-    Ok(n)
+    Ok(rows.count())
 }

@@ -6,6 +6,7 @@ mod blocks;
 mod brief_addresses;
 mod briefs;
 mod choices;
+mod counted;
 mod elements;
 pub mod faults;
 mod identifiers;

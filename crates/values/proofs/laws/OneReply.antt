@@ -26,7 +26,7 @@ use Rattle.values.specs.Tables.{blocks_rows, identifiers_rows}
 use Rattle.values.specs.Identifiers.{read_identifiers}
 use Rattle.values.specs.Spaces.{space_number}
 use Rattle.values.specs.Seen.{found_seen, FoundIn}
-use Rattle.values.specs.Into.{Stands, CountedInto, ChosenInto}
+use Rattle.values.specs.Into.{Stands, counted, chosen, CountedInto, ChosenInto}
 use Rattle.values.specs.Readings.{Left}
 use Rattle.values.proofs.addresses.element.Kinds as of_element
 use Rattle.values.proofs.addresses.element.Reads as element
@@ -129,16 +129,18 @@ pub blocks_read_one_reply : OneReply blocks_read.Post (λ κs r s. left_of r s.1
 blocks_read_one_reply κs a r r' s s' p q = counted_one blocks_rows (length a.0.now) 0 a.1.0.now (read_blocks a.0.now) r r' s.1.0.now s'.1.0.now p q
 
 -- choices::read, an exception: after a refusal the first 3,072 numbers of the table are open
-pub choices_read_one_reply : OneReply choices_read.Post (λ κs r s. left_in r s.1.1.1.0.now)
-choices_read_one_reply κs a r r' s s' p q = chosen_one (space_number a.0) a.1.0.now a.1.1.0 a.1.1.1.0.now (choice_at a.0 a.1.1.0 a.1.0.now) r r' s.1.1.1.0.now s'.1.1.1.0.now p q
+pub choices_read_one_reply : OneReply choices_read.Post (λ κs r s. left_in (chosen s.1.1.0.now.count r) s.1.1.0.now.table.now)
+choices_read_one_reply κs a r r' s s' p q =
+    chosen_one (space_number a.0) a.1.0.now a.1.1.0.now.count a.1.1.0.now.table.now (choice_at a.0 a.1.1.0.now.count a.1.0.now) (chosen s.1.1.0.now.count r) (chosen s'.1.1.0.now.count r') s.1.1.0.now.table.now s'.1.1.0.now.table.now p.1 q.1
 
 -- elements::Space: `u64::from`
 pub number_one_reply : OneReply number.Post (λ κs r s. r)
 number_one_reply κs a r r' s s' p q = one_reply p q
 
 -- elements::read, an exception: after a refusal the first 3,072 numbers of the table are open
-pub elements_read_one_reply : OneReply elements_read.Post (λ κs r s. left_of r s.1.1.1.0.now)
-elements_read_one_reply κs a r r' s s' p q = counted_one (listed_rows (space_number a.0)) (length a.1.0.now) a.1.1.0 a.1.1.1.0.now (elements_of a.0 a.1.1.0 a.1.0.now) r r' s.1.1.1.0.now s'.1.1.1.0.now p q
+pub elements_read_one_reply : OneReply elements_read.Post (λ κs r s. left_of (counted s.1.1.0.now.count r) s.1.1.0.now.table.now)
+elements_read_one_reply κs a r r' s s' p q =
+    counted_one (listed_rows (space_number a.0)) (length a.1.0.now) a.1.1.0.now.count a.1.1.0.now.table.now (elements_of a.0 a.1.1.0.now.count a.1.0.now) (counted s.1.1.0.now.count r) (counted s'.1.1.0.now.count r') s.1.1.0.now.table.now s'.1.1.0.now.table.now p.1 q.1
 
 -- identifiers::read, an exception: after a refusal the first 3,072 numbers of the table are open
 pub identifiers_read_one_reply : OneReply identifiers_read.Post (λ κs r s. left_of r s.1.1.0.now)

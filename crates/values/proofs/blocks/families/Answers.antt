@@ -1,17 +1,19 @@
 -- `values::blocks::families` meets its contract. Assumes nothing.
+use mathlib.Core.Path.{refl, ap}
 use Rattle.std.proofs.Common.{rules}
 use Rattle.std.specs.Prelude.{◌≡◌, Ok, Err}
 use Rattle.std.specs.Prelude.{◌-◌, ◌+◌, length}
+use Rattle.values.specs.Into.{family}
 use Rattle.values.proofs.Exits.{handed, shifted, kept, all_fit}
 use Rattle.values.proofs.Joins.{tag_order, tag_inside}
 use Rattle.values.proofs.FamilyLoop.{gather_start, gather_bad, gather_isnt, gather_turn, gather_end, head_fits, place_fits, gather_less}
 use Rattle.values.proofs.blocks.families.Goals as goal
 
 pub loop-rest-init : goal.loop-rest-init
-loop-rest-init c = search (gather_start, rules)
+loop-rest-init c = (refl, rw (c.new-rows.ensures.left, c.new-rows.ensures.counted) (search (gather_start, rules)))
 
 pub returns-in-Err : goal.returns-in-Err
-returns-in-Err c = rw c.at.ensures (search (gather_bad, rules))
+returns-in-Err c = rw c.at.ensures (gather_bad _ _ _ _ _ _ c.loop-rest.invariant.1 c.loop-rest-test.true _ c.open.ensures _ c.in-Err.is _ (search rules))
 
 pub overflow_add-at : goal.overflow_add-at
 overflow_add-at c =
@@ -36,14 +38,17 @@ slice_bounds-family_of-end c =
 pub after-requires : goal.after-requires
 after-requires c =
     let o : c.open.result ≡ Ok (c.in-Ok.opening.0, c.in-Ok.opening.1) = c.in-Ok.is in
-    all_fit _ c.family_of.result (λ f e. search (place_fits, rules))
+    all_fit _ c.family_of.result
+    (λ f e.
+    let u : family c.family_of.new.rows.count c.family_of.result ≡ Err f = ap (family c.family_of.new.rows.count) e in
+    search (place_fits, rules))
 
 pub returns-in_err-space : goal.returns-in_err-space
 returns-in_err-space c =
     let o : c.open.result ≡ Ok (c.in-Ok.opening.0, c.in-Ok.opening.1) = c.in-Ok.is in
     let p = shifted (length c.args.s.now - length c.loop-rest.rest.now + c.in-Ok.opening.0) c.family_of.result c.in_err-space.ensures in
-    let e : c.family_of.result ≡ Err p.0 = p.1 in
-    rw (handed _ c.from_residual.ensures.1, p.2) (search (gather_isnt, rules))
+    let e : family c.family_of.new.rows.count c.family_of.result ≡ Err p.0 = ap (family c.family_of.new.rows.count) p.1 in
+    rw (handed _ c.from_residual.ensures.1, p.2) (gather_isnt _ _ _ _ _ _ c.loop-rest.invariant.1 c.loop-rest-test.true _ c.open.ensures _ _ o _ _ c.family_of.ensures.rows _ e _ (search rules))
 
 pub slice_bounds-rest-count : goal.slice_bounds-rest-count
 slice_bounds-rest-count c =
@@ -63,8 +68,8 @@ loop-rest-smaller c =
 pub loop-rest-preserved : goal.loop-rest-preserved
 loop-rest-preserved c =
     let o : c.open.result ≡ Ok (c.in-Ok.opening.0, c.in-Ok.opening.1) = c.in-Ok.is in
-    let e : c.family_of.result ≡ Ok _ = kept (length c.args.s.now - length c.loop-rest.rest.now + c.in-Ok.opening.0) c.family_of.result c.in_ok-space.ensures in
-    search (gather_turn, rules)
+    let e : family c.family_of.new.rows.count c.family_of.result ≡ Ok (c.in_ok-space.space, c.family_of.new.rows.count) = ap (family c.family_of.new.rows.count) (kept (length c.args.s.now - length c.loop-rest.rest.now + c.in-Ok.opening.0) c.family_of.result c.in_ok-space.ensures) in
+    (search rules, search (gather_turn, rules))
 
 pub returns : goal.returns
-returns c = search (gather_end, rules)
+returns c = rw c.count.ensures (gather_end _ _ _ _ _ _ c.loop-rest.invariant.1 c.loop-rest-test.false _ (search rules))

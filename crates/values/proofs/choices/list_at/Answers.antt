@@ -1,14 +1,16 @@
 -- `values::choices::list_at` meets its contract. Assumes nothing.
+use mathlib.Core.Path.{sym, ap, ◌∙◌}
 use Rattle.std.proofs.Common.{rules}
 use Rattle.std.specs.Prelude.{◌≡◌, Ok, Err}
 use Rattle.values.specs.Faults.{at}
+use Rattle.values.specs.Into.{counted}
 use Rattle.values.proofs.Exits.{handed, shifted, kept}
 use Rattle.values.proofs.Joins.{tag_order, tag_inside}
 use Rattle.values.proofs.Choosing.{list_bad, list_isnt, list_none, list_some}
 use Rattle.values.proofs.choices.list_at.Goals as goal
 
-pub returns-in_err-k : goal.returns-in_err-k
-returns-in_err-k c = rw (handed (at 0 _) c.from_residual.ensures.1) (search (list_bad, rules))
+pub returns-in_err-k-clause-rows : goal.returns-in_err-k-clause-rows
+returns-in_err-k-clause-rows c = rw (handed (at 0 _) c.from_residual.ensures.1) (search (list_bad, rules))
 
 pub slice_bounds-read-count : goal.slice_bounds-read-count
 slice_bounds-read-count c = search (tag_order, rules)
@@ -19,18 +21,20 @@ slice_bounds-read-start c = search (tag_order, rules)
 pub slice_bounds-read-end : goal.slice_bounds-read-end
 slice_bounds-read-end c = search (tag_inside, rules)
 
-pub returns-in_err-n : goal.returns-in_err-n
-returns-in_err-n c =
-    let p = shifted c.in_ok-k.k c.read.result c.in_err-n.ensures in
-    let e : c.read.result ≡ Err p.0 = p.1 in
-    rw (handed _ c.from_residual-in_err-n.ensures.1, p.2) (search (list_isnt, rules))
+pub returns-in_err-after-clause-rows : goal.returns-in_err-after-clause-rows
+returns-in_err-after-clause-rows c =
+    let p = shifted c.in_ok-k.k c.read.result c.in_err-after.ensures in
+    let e : counted c.read.new.rows.count c.read.result ≡ Err p.0 = ap (counted c.read.new.rows.count) p.1 in
+    rw (handed _ c.from_residual-in_err-after.ensures.1, p.2) (search (list_isnt, rules))
 
-pub returns-then-n-count : goal.returns-then-n-count
-returns-then-n-count c =
-    let e : c.read.result ≡ Ok _ = kept c.in_ok-k.k c.read.result c.in_ok-n.ensures in
+pub returns-then-count-before-clause-rows : goal.returns-then-count-before-clause-rows
+returns-then-count-before-clause-rows c =
+    let e : counted c.read.new.rows.count c.read.result ≡ Ok c.read.new.rows.count = ap (counted c.read.new.rows.count) (kept c.in_ok-k.k c.read.result c.in_ok-after.ensures) in
+    let z : c.read.new.rows.count ≡ c.args.rows.now.count = sym c.count.ensures ∙ c.if-count-before.true ∙ c.count-before.ensures in
     rw c.from.ensures (search (list_none, rules))
 
-pub returns : goal.returns
-returns c =
-    let e : c.read.result ≡ Ok _ = kept c.in_ok-k.k c.read.result c.in_ok-n.ensures in
+pub returns-clause-rows : goal.returns-clause-rows
+returns-clause-rows c =
+    let e : counted c.read.new.rows.count c.read.result ≡ Ok c.read.new.rows.count = ap (counted c.read.new.rows.count) (kept c.in_ok-k.k c.read.result c.in_ok-after.ensures) in
+    let z : c.read.new.rows.count ≡ c.args.rows.now.count → ⊥ = λ q. c.if-count-before.false (c.count.ensures ∙ q ∙ sym c.count-before.ensures) in
     search (list_some, rules)
