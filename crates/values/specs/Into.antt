@@ -5,9 +5,9 @@ use Rattle.number.specs.declared.refusal.Refusal.TheVariants as refusal
 use Rattle.table.specs.Sizes.{max_rows, table_numbers}
 use Rattle.table.specs.Rows.{Row, with_row, with_rows}
 use Rattle.der.specs.Parts.{Contents, is, isnt, Part, part, nopart}
-use Rattle.values.specs.Faults.{Fault}
+use Rattle.values.specs.Faults.{Fault, Read, Taken}
 use Rattle.values.specs.Choices.{Choice, choice_rows}
-use Rattle.values.specs.Faults.{Read, Taken}
+use Rattle.values.specs.declared.counted.Rows.{Rows}
 use Rattle.std.specs.Prelude.{Result, Ok, Err}
 
 -- the table is as long as it was, and its numbers after the first 3,072 are the same
@@ -57,3 +57,14 @@ ChosenInto a s n t (nopart f) r t' = (r ≡ Err f) × (f.place ≤ length s) × 
 abbrev pub FamilyInto : ℕ → ℕ → List ℕ → Contents (ℕ × Choice) Fault → (Read (ℕ × ℕ)) → List ℕ → Type 0
 FamilyInto m n t (is x) r t' = (r ≡ Ok (x.0, (n + length (choice_rows x.0 x.1)))) × (x.0 ≤ 4095) × (t' ≡ with_rows t n (choice_rows x.0 x.1)) × Stands t t'
 FamilyInto m n t (isnt f) r t' = (r ≡ Err f) × (f.place ≤ m) × Stands t t'
+
+-- THE SAME OF THE ROWS SO FAR: as they were before a reader, and as they are after it
+
+abbrev pub CountedOn : {X : Type 0} → (X → List Row) → ℕ → Rows → Contents X Fault → Read (Unit {0}) → Rows → Type 0
+CountedOn rows m a o r b = CountedInto rows m a.count a.table.now o (counted b.count r) b.table.now
+
+abbrev pub ChosenOn : ℕ → List ℕ → Rows → Part Choice Fault → Read ℕ → Rows → Type 0
+ChosenOn x s a o r b = ChosenInto x s a.count a.table.now o (chosen b.count r) b.table.now
+
+abbrev pub FamilyOn : ℕ → Rows → Contents (ℕ × Choice) Fault → Read ℕ → Rows → Type 0
+FamilyOn m a o r b = FamilyInto m a.count a.table.now o (family b.count r) b.table.now

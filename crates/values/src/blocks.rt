@@ -3,7 +3,7 @@ ghost use Rattle.std.specs.Prelude.{◌≡◌, ◌<◌, length};
 ghost use Rattle.values.specs.Blocks as spec;
 ghost use Rattle.values.specs.Tables.{blocks_rows};
 ghost use Rattle.values.specs.Seen.{space_seen, space_of_seen, SpaceIn};
-ghost use Rattle.values.specs.Into.{CountedInto, FamilyInto, family};
+ghost use Rattle.values.specs.Into.{CountedInto, FamilyOn};
 
 use crate::choices;
 use crate::counted::Rows;
@@ -45,7 +45,7 @@ fn space_at(s: &[u8], least: u64) -> Taken<u64>
 // The contents of a family: its space, its choice, then nothing. Its space.
 fn family_of(s: &[u8], least: u64, rows: &mut Rows) -> Read<u64>
     ensures same_table { rows.new.table.ghost_name ≡ rows.old.table.ghost_name }
-    ensures rows { FamilyInto (length s.now) rows.old.count rows.old.table.now (spec.family_of least rows.old.count s.now) (family rows.new.count result) rows.new.table.now }
+    ensures rows { FamilyOn (length s.now) rows.old (spec.family_of least rows.old.count s.now) result rows.new }
 {
     let (space, k) = space_at(s, least)?;
     let rest = &s[k..];

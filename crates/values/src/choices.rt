@@ -3,7 +3,7 @@ ghost use Rattle.std.specs.Prelude.{◌≡◌};
 ghost use Rattle.table.specs.Rows.{in_halves};
 ghost use Rattle.values.specs.Spaces.{space_number};
 ghost use Rattle.values.specs.Choices as spec;
-ghost use Rattle.values.specs.Into.{ChosenInto, chosen};
+ghost use Rattle.values.specs.Into.{ChosenOn};
 
 use crate::counted::Rows;
 use crate::elements;
@@ -29,7 +29,7 @@ fn inherit_row(space: u64) -> Row
 // The NULL that s begins with: its row says that the space is inherited. Its end.
 fn inherit_at(space: u64, s: &[u8], rows: &mut Rows) -> Read<usize>
     ensures same_table { rows.new.table.ghost_name ≡ rows.old.table.ghost_name }
-    ensures rows { ChosenInto space s.now rows.old.count rows.old.table.now (spec.inherit_at rows.old.count s.now) (chosen rows.new.count result) rows.new.table.now }
+    ensures rows { ChosenOn space s.now rows.old (spec.inherit_at rows.old.count s.now) result rows.new }
 {
     let (k, end) = heads::open(tags::NULL, s)?;
     if !strings::null(&s[k..end]) {
@@ -42,7 +42,7 @@ fn inherit_at(space: u64, s: &[u8], rows: &mut Rows) -> Read<usize>
 // The list that s begins with: "at least one element". Its end.
 fn list_at(space: Space, s: &[u8], rows: &mut Rows) -> Read<usize>
     ensures same_table { rows.new.table.ghost_name ≡ rows.old.table.ghost_name }
-    ensures rows { ChosenInto (space_number space) s.now rows.old.count rows.old.table.now (spec.listed_at space rows.old.count s.now) (chosen rows.new.count result) rows.new.table.now }
+    ensures rows { ChosenOn (space_number space) s.now rows.old (spec.listed_at space rows.old.count s.now) result rows.new }
 {
     let (k, end) = heads::open(tags::SEQUENCE, s)?;
     let before = rows.count();
@@ -57,7 +57,7 @@ fn list_at(space: Space, s: &[u8], rows: &mut Rows) -> Read<usize>
 // Returns the octets taken, or the refusal and its place in s.
 pub fn read(space: Space, s: &[u8], rows: &mut Rows) -> Read<usize>
     ensures same_table { rows.new.table.ghost_name ≡ rows.old.table.ghost_name }
-    ensures rows { ChosenInto (space_number space) s.now rows.old.count rows.old.table.now (spec.choice_at space rows.old.count s.now) (chosen rows.new.count result) rows.new.table.now }
+    ensures rows { ChosenOn (space_number space) s.now rows.old (spec.choice_at space rows.old.count s.now) result rows.new }
 {
     if 0 < s.len() && s[0] == tags::NULL {
         return inherit_at(u64::from(space), s, rows);

@@ -5,7 +5,7 @@ ghost use Rattle.values.specs.Spaces.{space_number};
 ghost use Rattle.values.specs.Choices.{listed_rows};
 ghost use Rattle.values.specs.Elements as spec;
 ghost use Rattle.values.specs.Seen.{found_seen, FoundIn};
-ghost use Rattle.values.specs.Into.{CountedInto, counted};
+ghost use Rattle.values.specs.Into.{CountedOn};
 
 use crate::counted::Rows;
 use crate::faults::{Fault, Read, Taken, after};
@@ -60,7 +60,7 @@ fn early(at: usize, last: Halves, low: Halves) -> bool
 // Returns the refusal and its place in s, if there is one.
 pub fn read(space: Space, s: &[u8], rows: &mut Rows) -> Read<()>
     ensures same_table { rows.new.table.ghost_name ≡ rows.old.table.ghost_name }
-    ensures rows { CountedInto (listed_rows (space_number space)) (length s.now) rows.old.count rows.old.table.now (spec.elements_of space rows.old.count s.now) (counted rows.new.count result) rows.new.table.now }
+    ensures rows { CountedOn (listed_rows (space_number space)) (length s.now) rows.old (spec.elements_of space rows.old.count s.now) result rows.new }
 {
     let mut rest = s;
     let mut last = halves::ZERO;

@@ -5,7 +5,7 @@ ghost use Rattle.values.specs.Spaces.{space_number};
 ghost use Rattle.values.specs.Choices.{choice_rows};
 ghost use Rattle.values.specs.Identifiers as spec;
 ghost use Rattle.values.specs.Tables.{identifiers_rows};
-ghost use Rattle.values.specs.Into.{CountedInto, counted, ChosenInto, chosen};
+ghost use Rattle.values.specs.Into.{CountedInto, CountedOn, ChosenOn};
 
 use crate::counted::Rows;
 use crate::elements::Space;
@@ -17,7 +17,7 @@ use number::refusal::Refusal;
 // The member that s begins with: it "wraps NULL or a SEQUENCE", and nothing follows in it. Its end.
 fn member(tag: u8, space: Space, s: &[u8], rows: &mut Rows) -> Read<usize>
     ensures same_table { rows.new.table.ghost_name ≡ rows.old.table.ghost_name }
-    ensures rows { ChosenInto (space_number space) s.now rows.old.count rows.old.table.now (spec.member_at tag space rows.old.count s.now) (chosen rows.new.count result) rows.new.table.now }
+    ensures rows { ChosenOn (space_number space) s.now rows.old (spec.member_at tag space rows.old.count s.now) result rows.new }
 {
     let (k, end) = heads::open(tag, s)?;
     let inner = &s[k..end];
@@ -31,7 +31,7 @@ fn member(tag: u8, space: Space, s: &[u8], rows: &mut Rows) -> Read<usize>
 // [1], and nothing after it: "any octet after [1] is 5".
 fn last(s: &[u8], rows: &mut Rows) -> Read<()>
     ensures same_table { rows.new.table.ghost_name ≡ rows.old.table.ghost_name }
-    ensures rows { CountedInto (choice_rows routing_domains) (length s.now) rows.old.count rows.old.table.now (spec.last_of rows.old.count s.now) (counted rows.new.count result) rows.new.table.now }
+    ensures rows { CountedOn (choice_rows routing_domains) (length s.now) rows.old (spec.last_of rows.old.count s.now) result rows.new }
 {
     let end = member(limits::RDI, Space::RoutingDomains, s, rows)?;
     if end < s.len() {
@@ -43,7 +43,7 @@ fn last(s: &[u8], rows: &mut Rows) -> Read<()>
 // [0], and [1] or nothing after it.
 fn first(s: &[u8], rows: &mut Rows) -> Read<()>
     ensures same_table { rows.new.table.ghost_name ≡ rows.old.table.ghost_name }
-    ensures rows { CountedInto identifiers_rows (length s.now) rows.old.count rows.old.table.now (spec.first_of rows.old.count s.now) (counted rows.new.count result) rows.new.table.now }
+    ensures rows { CountedOn identifiers_rows (length s.now) rows.old (spec.first_of rows.old.count s.now) result rows.new }
 {
     let end = member(limits::ASNUM, Space::AsNumbers, s, rows)?;
     if end < s.len() {
@@ -55,7 +55,7 @@ fn first(s: &[u8], rows: &mut Rows) -> Read<()>
 // The members: [0] first, or [1] alone.
 fn members(s: &[u8], rows: &mut Rows) -> Read<()>
     ensures same_table { rows.new.table.ghost_name ≡ rows.old.table.ghost_name }
-    ensures rows { CountedInto identifiers_rows (length s.now) rows.old.count rows.old.table.now (spec.members_of rows.old.count s.now) (counted rows.new.count result) rows.new.table.now }
+    ensures rows { CountedOn identifiers_rows (length s.now) rows.old (spec.members_of rows.old.count s.now) result rows.new }
 {
     if 0 < s.len() && s[0] == limits::ASNUM {
         return first(s, rows);
