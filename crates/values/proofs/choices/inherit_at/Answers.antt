@@ -1,6 +1,6 @@
 -- `values::choices::inherit_at` meets its contract. Assumes nothing.
 use Rattle.std.proofs.Common.{rules}
-use borrow.Author.Tests.{not-true, not-false}
+use borrow.Author.Tests.{not-true}
 use Rattle.values.specs.Faults.{at}
 use Rattle.values.proofs.Exits.{handed}
 use Rattle.values.proofs.Joins.{tag_order, tag_inside}
