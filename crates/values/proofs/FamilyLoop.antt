@@ -59,7 +59,7 @@ blocks_snoc (g ∷ fs) f = ap (λ (rs : List Row). choice_rows g.0 g.1 ++ rs) (b
 
 -- THE LOOP
 
--- n rows now in the table t, those of the families read; the rest is left, and the next space is at least least
+-- n rows now, those of the families read; the rest is left, and the next space is at least least
 pub record Gathering (s t₀ t rest : List ℕ) (least n : ℕ) : Type 0 where
   pub read : List (ℕ × Choice)
   pub held : Held family_step (families_of s) (length s - length rest, least, n) read rest
@@ -81,16 +81,16 @@ gather_less rest o k e p q l = let i = opens SEQUENCE rest k e p q in rw (rest_o
 
 module _ (s t₀ t rest : List ℕ) (least n : ℕ) (v : Gathering s t₀ t rest least n) where
   -- nothing is left
-  pub gather_end : length rest ≤ 0 → (u : List ℕ) → u ≡ t → CountedInto blocks_rows (length s) 0 t₀ (families_of s) (Ok n) u
-  gather_end h u w = rw w (counted_is blocks_rows (length s) 0 t₀ t (families_of s) (Ok n) v.read (held_end v.held h) (ap Ok v.rows) v.table v.stands)
+  pub gather_end : length rest ≤ 0 → CountedInto blocks_rows (length s) 0 t₀ (families_of s) (Ok n) t
+  gather_end h = counted_is blocks_rows (length s) 0 t₀ t (families_of s) (Ok n) v.read (held_end v.held h) (ap Ok v.rows) v.table v.stands
 
   module _ (h : 0 < length rest) (o : Opening) (p : o ≡ opening_of SEQUENCE rest) where
     -- no SEQUENCE is next
-    pub gather_bad : (f : Refusal) → o ≡ Err f → (u : List ℕ) → u ≡ t → CountedInto blocks_rows (length s) 0 t₀ (families_of s) (Err (at (length s - length rest) f)) u
-    gather_bad f q u w =
+    pub gather_bad : (f : Refusal) → o ≡ Err f → CountedInto blocks_rows (length s) 0 t₀ (families_of s) (Err (at (length s - length rest) f)) t
+    gather_bad f q =
         let z : length s - length rest + 0 ≡ length s - length rest = omega arith in
-        rw w (counted_not blocks_rows (length s) 0 t₀ t (families_of s) (Err (at (length s - length rest) f)) (at (length s - length rest) f)
-        (held_exit v.held (at (length s - length rest) f) h (step_bad _ rest o p f q ∙ rw z)) refl (omega arith) v.stands)
+        counted_not blocks_rows (length s) 0 t₀ t (families_of s) (Err (at (length s - length rest) f)) (at (length s - length rest) f)
+        (held_exit v.held (at (length s - length rest) f) h (step_bad _ rest o p f q ∙ rw z)) refl (omega arith) v.stands
 
     module _ (k e : ℕ) (q : o ≡ Ok (k, e)) where
       -- the place of its contents
@@ -109,11 +109,11 @@ module _ (s t₀ t rest : List ℕ) (least n : ℕ) (v : Gathering s t₀ t rest
           pub place_fits : length s < 2 ^ 64 → length s - length rest + k + f.place < 2 ^ 64
           place_fits l = omega (arith, v.inside, place)
 
-          pub gather_isnt : (x : List ℕ) → x ≡ t' → CountedInto blocks_rows (length s) 0 t₀ (families_of s) (Err (later (length s - length rest + k) f)) x
-          gather_isnt x y =
+          pub gather_isnt : CountedInto blocks_rows (length s) 0 t₀ (families_of s) (Err (later (length s - length rest + k) f)) t'
+          gather_isnt =
               let z : length s - length rest + (k + f.place) ≡ length s - length rest + k + f.place = omega arith in
-              rw y (counted_not blocks_rows (length s) 0 t₀ t' (families_of s) (Err (later (length s - length rest + k) f)) (later (length s - length rest + k) f)
-              (held_exit v.held (later (length s - length rest + k) f) h (step_isnt _ rest o p k e q f refusal_of_lem.was place ∙ rw z)) refl (omega (arith, v.inside, place)) (stands_on v.stands refusal_of_lem.stands))
+              counted_not blocks_rows (length s) 0 t₀ t' (families_of s) (Err (later (length s - length rest + k) f)) (later (length s - length rest + k) f)
+              (held_exit v.held (later (length s - length rest + k) f) h (step_isnt _ rest o p k e q f refusal_of_lem.was place ∙ rw z)) refl (omega (arith, v.inside, place)) (stands_on v.stands refusal_of_lem.stands)
 
         -- they are a family
         module _ (a m : ℕ) (w : r ≡ Ok (a, m)) where

@@ -1,5 +1,5 @@
 -- What a reader answers and leaves of the table, by the cases of its definition's answer. Assumes nothing.
---     counted_is, counted_not      `CountedInto` where all was read, and where there is a refusal
+--     counted_is, counted_not      `CountedInto` where all was read, and where there is a refusal.      counted_at      where the table is another's
 --     chosen_is, chosen_not        `ChosenInto` likewise.      family_is, family_not        `FamilyInto`
 --     stands_still, stands_row, stands_on     a table that nothing was written to, one with a row more, and one thing after another
 --     pushed_not, pushed_is        what `push` did where it refused the row, and where it wrote it
@@ -47,6 +47,10 @@ module _ {X : Type 0} (rows : X → List Row) (m n : ℕ) (t t' : List ℕ) (o :
   -- there is a refusal
   pub counted_not : (f : Fault) → isnt f ≡ o → r ≡ Err f → f.place ≤ m → Stands t t' → CountedInto rows m n t o r t'
   counted_not f e q l h = rw (← e) (q, l, h)
+
+  -- the table as its lender has it again
+  pub counted_at : (u : List ℕ) → CountedInto rows m n t o r t' → u ≡ t' → CountedInto rows m n t o r u
+  counted_at u h e = rw e h
 
 module _ (a : ℕ) (s : List ℕ) (n : ℕ) (t t' : List ℕ) (o : Part Choice Fault) (r : Taken ℕ) where
   -- a choice, in the octets up to an end

@@ -73,7 +73,7 @@ fn families(s: &[u8], table: &mut [u64]) -> Read<usize>
         least = space + 1;
         rest = &rest[end..];
     }
-    Ok(rows.count())
+    Ok(rows.count)
 }
 
 // Reads an IPAddrBlocks value into the table, from row 0 on.

@@ -45,9 +45,9 @@ fn list_at(space: Space, s: &[u8], rows: &mut Rows) -> Read<usize>
     ensures rows { ChosenOn (space_number space) s.now rows.old (spec.listed_at space rows.old.count s.now) result rows.new }
 {
     let (k, end) = heads::open(tags::SEQUENCE, s)?;
-    let before = rows.count();
+    let before = rows.count;
     after(k, elements::read(space, &s[k..end], rows))?;
-    if rows.count() == before {
+    if rows.count == before {
         return Err(Fault::from(Refusal::EmptyList));
     }
     Ok(end)

@@ -11,8 +11,8 @@ use table::rows::Row;
 // Each function that takes them says that the table is the one that it was.
 #[derive(Drop)]
 pub(crate) struct Rows<'a> {
-    table: &'a mut [u64],
-    count: usize,
+    pub(crate) table: &'a mut [u64],
+    pub(crate) count: usize,
 }
 
 impl<'a> Rows<'a> {
@@ -23,13 +23,6 @@ impl<'a> Rows<'a> {
         ensures counted { result.count ≡ count }
     {
         Rows { table, count }
-    }
-
-    // How many rows there are.
-    pub(crate) fn count(&self) -> usize
-        ensures { result ≡ self.now.count }
-    {
-        self.count
     }
 
     // One row more: "row 513" is refused.

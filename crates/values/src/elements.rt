@@ -62,6 +62,8 @@ pub fn read(space: Space, s: &[u8], rows: &mut Rows) -> Read<()>
     ensures same_table { rows.new.table.ghost_name ≡ rows.old.table.ghost_name }
     ensures rows { CountedOn (listed_rows (space_number space)) (length s.now) rows.old (spec.elements_of space rows.old.count s.now) result rows.new }
 {
+    // Of its own through the loop: what it counts stays in registers.
+    let mut listed = Rows::new(rows.table, rows.count);
     let mut rest = s;
     let mut last = halves::ZERO;
     while 0 < rest.len() {
@@ -70,11 +72,12 @@ pub fn read(space: Space, s: &[u8], rows: &mut Rows) -> Read<()>
         if early(at, last, row.low) {
             return Err(Fault::at(at, Refusal::ElementOrder));
         }
-        if let Err(refusal) = rows.push(row) {
+        if let Err(refusal) = listed.push(row) {
             return Err(Fault::at(at, refusal));
         }
         last = row.high;
         rest = &rest[k..];
     }
+    rows.count = listed.count;
     Ok(())
 }

@@ -77,5 +77,5 @@ pub fn read(value: &[u8], count: usize, table: &mut [u64]) -> Read<usize>
     if end < value.len() {
         return Err(Fault::at(end, Refusal::OctetsLeft));
     }
-    Ok(rows.count())
+    Ok(rows.count)
 }

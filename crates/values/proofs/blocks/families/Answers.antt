@@ -6,6 +6,7 @@ use Rattle.std.specs.Prelude.{◌-◌, ◌+◌, length}
 use Rattle.values.specs.Into.{family}
 use Rattle.values.proofs.Exits.{handed, shifted, kept, all_fit}
 use Rattle.values.proofs.Joins.{tag_order, tag_inside}
+use Rattle.values.proofs.Filling.{counted_at}
 use Rattle.values.proofs.FamilyLoop.{gather_start, gather_bad, gather_isnt, gather_turn, gather_end, head_fits, place_fits, gather_less}
 use Rattle.values.proofs.blocks.families.Goals as goal
 
@@ -13,7 +14,7 @@ pub loop-rest-init : goal.loop-rest-init
 loop-rest-init c = (refl, rw (c.new-rows.ensures.left, c.new-rows.ensures.counted) (search (gather_start, rules)))
 
 pub returns-in-Err : goal.returns-in-Err
-returns-in-Err c = rw c.at.ensures (gather_bad _ _ _ _ _ _ c.loop-rest.invariant.1 c.loop-rest-test.true _ c.open.ensures _ c.in-Err.is _ (search rules))
+returns-in-Err c = rw c.at.ensures (counted_at _ _ _ _ _ _ _ _ (gather_bad _ _ _ _ _ _ c.loop-rest.invariant.1 c.loop-rest-test.true _ c.open.ensures _ c.in-Err.is) (search rules))
 
 pub overflow_add-at : goal.overflow_add-at
 overflow_add-at c =
@@ -48,7 +49,7 @@ returns-in_err-space c =
     let o : c.open.result ≡ Ok (c.in-Ok.opening.0, c.in-Ok.opening.1) = c.in-Ok.is in
     let p = shifted (length c.args.s.now - length c.loop-rest.rest.now + c.in-Ok.opening.0) c.family_of.result c.in_err-space.ensures in
     let e : family c.family_of.new.rows.count c.family_of.result ≡ Err p.0 = ap (family c.family_of.new.rows.count) p.1 in
-    rw (handed _ c.from_residual.ensures.1, p.2) (gather_isnt _ _ _ _ _ _ c.loop-rest.invariant.1 c.loop-rest-test.true _ c.open.ensures _ _ o _ _ c.family_of.ensures.rows _ e _ (search rules))
+    rw (handed _ c.from_residual.ensures.1, p.2) (counted_at _ _ _ _ _ _ _ _ (gather_isnt _ _ _ _ _ _ c.loop-rest.invariant.1 c.loop-rest-test.true _ c.open.ensures _ _ o _ _ c.family_of.ensures.rows _ e) (search rules))
 
 pub slice_bounds-rest-count : goal.slice_bounds-rest-count
 slice_bounds-rest-count c =
@@ -72,4 +73,4 @@ loop-rest-preserved c =
     (search rules, search (gather_turn, rules))
 
 pub returns : goal.returns
-returns c = rw c.count.ensures (gather_end _ _ _ _ _ _ c.loop-rest.invariant.1 c.loop-rest-test.false _ (search rules))
+returns c = counted_at _ _ _ _ _ _ _ _ (gather_end _ _ _ _ _ _ c.loop-rest.invariant.1 c.loop-rest-test.false) (search rules)

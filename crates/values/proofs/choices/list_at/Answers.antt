@@ -1,5 +1,5 @@
 -- `values::choices::list_at` meets its contract. Assumes nothing.
-use mathlib.Core.Path.{sym, ap, ◌∙◌}
+use mathlib.Core.Path.{ap}
 use Rattle.std.proofs.Common.{rules}
 use Rattle.std.specs.Prelude.{◌≡◌, Ok, Err}
 use Rattle.values.specs.Faults.{at}
@@ -27,14 +27,12 @@ returns-in_err-after-clause-rows c =
     let e : counted c.read.new.rows.count c.read.result ≡ Err p.0 = ap (counted c.read.new.rows.count) p.1 in
     rw (handed _ c.from_residual-in_err-after.ensures.1, p.2) (search (list_isnt, rules))
 
-pub returns-then-count-before-clause-rows : goal.returns-then-count-before-clause-rows
-returns-then-count-before-clause-rows c =
+pub returns-then-rows-before-clause-rows : goal.returns-then-rows-before-clause-rows
+returns-then-rows-before-clause-rows c =
     let e : counted c.read.new.rows.count c.read.result ≡ Ok c.read.new.rows.count = ap (counted c.read.new.rows.count) (kept c.in_ok-k.k c.read.result c.in_ok-after.ensures) in
-    let z : c.read.new.rows.count ≡ c.args.rows.now.count = sym c.count.ensures ∙ c.if-count-before.true ∙ c.count-before.ensures in
     rw c.from.ensures (search (list_none, rules))
 
 pub returns-clause-rows : goal.returns-clause-rows
 returns-clause-rows c =
     let e : counted c.read.new.rows.count c.read.result ≡ Ok c.read.new.rows.count = ap (counted c.read.new.rows.count) (kept c.in_ok-k.k c.read.result c.in_ok-after.ensures) in
-    let z : c.read.new.rows.count ≡ c.args.rows.now.count → ⊥ = λ q. c.if-count-before.false (c.count.ensures ∙ q ∙ sym c.count-before.ensures) in
     search (list_some, rules)

@@ -38,4 +38,4 @@ returns-then-end-value c =
 pub returns : goal.returns
 returns c =
     let e : counted c.members.new.rows.count c.members.result ≡ Ok c.members.new.rows.count = ap (counted c.members.new.rows.count) (kept c.in_ok-k.k c.members.result c.in_ok-after.ensures) in
-    rw c.count.ensures (search (ids_all, rules))
+    search (ids_all, rules)
