@@ -1,10 +1,10 @@
 -- What the code of `addresses` finds at each of its ends, in the terms of the definitions. Theorems. Assumes nothing.
---     Strung, bits_..      `bits_at`.      prefix_..       `prefix_row` and `prefix_at`.       Limited, bounds_..       `bounds_of`
---     Bounded, any_..      `bounds_at`.        ranged_..        `range_row`.        range_..        `range_at`
+--     Strung, bits_..      `bits_at`.      prefix_..       `prefix_row` and `prefix_at`.
+--     ranged_..        `range_row`.        range_..        `range_at`
 use mathlib.Core.Path.{◌≡◌, refl, sym, ap, ◌∙◌}
 use mathlib.Core.List.{List}
 use mathlib.Core.Bool.{Bool, true, false}
-use Prim.Native.Nat.{ℕ, ◌+◌, ◌-◌, ◌^◌, ◌≤◌, ◌<◌}
+use Prim.Native.Nat.{ℕ, ◌-◌, ◌^◌, ◌≤◌, ◌<◌}
 use native.Mathlib.Omega.{arith}
 use lib.Dec.{ltb, eqb}
 use lib.ListN.{length, take, drop}
@@ -25,22 +25,22 @@ use Rattle.number.proofs.laws.Octets.{octets_part}
 use Rattle.table.specs.Rows.{in_halves}
 use Rattle.table.specs.Spaces.{width_of}
 use Rattle.table.specs.declared.rows.Row.{Row}
-use Rattle.der.specs.Tags.{BIT_STRING, SEQUENCE}
+use Rattle.der.specs.Tags.{BIT_STRING}
 use Rattle.der.specs.Bits.{Bits, begun, bad, read_bits, addressed, bit_string_of}
 use Rattle.der.specs.Opening.{opening_of}
-use Rattle.der.specs.Parts.{is, part}
+use Rattle.der.specs.Parts.{part}
 use Rattle.der.specs.declared.bits.BitString.{BitString}
 use Rattle.der.proofs.laws.Bits.{bits_of_lem}
-use Rattle.values.specs.Faults.{Fault, at, later, moved}
+use Rattle.values.specs.Faults.{Fault, at}
 use Rattle.values.specs.Forms.{Span, span, span_of, none, ranged}
-use Rattle.values.specs.Addresses.{bits_contents, bits_at, bounds_of, range_at, prefix_at, range_row_at, spanned, as_prefix}
+use Rattle.values.specs.Addresses.{bits_contents, bits_at, range_at, prefix_at, range_row_at, spanned, as_prefix}
 use Rattle.values.specs.Choices.{listed_row}
-use Rattle.values.specs.Seen.{bits_seen, BitsIn, bounds_seen, BoundsIn, bounds_at_seen, BoundsAtIn, ranged_seen}
-use Rattle.values.proofs.Joins.{Refused, Took, Isnt, tag_refused, tag_isnt, tag_took, tag_place, join_first, join_second, join_over, join_both, sift_refused, sift_isnt, sift_took}
+use Rattle.values.specs.Seen.{bits_seen, BitsIn, bounds_at_seen, BoundsAtIn, ranged_seen}
+use Rattle.values.proofs.Joins.{Refused, Took, tag_refused, tag_isnt, tag_took, sift_refused, sift_isnt, sift_took}
 use Rattle.values.proofs.RowReads.{row_made, Rowed, row_took}
 use Rattle.der.specs.Opening.{Opening}
 use Rattle.std.specs.Prelude.{Ok, Err}
-use Rattle.values.specs.Faults.{Read, Taken}
+use Rattle.values.specs.Faults.{Taken}
 use Rattle.values.specs.declared.addresses.Start as begun
 use Rattle.std.specs.Prelude.{Option, Some, None}
 
@@ -109,10 +109,6 @@ module _ {r : Taken begun.Start} (w : ℕ) (s : List ℕ) (p : bits_seen s r ≡
     bits_is : Strung w s b.bits b.address k
     bits_is = let (y, (l, m)) = rw h at i in record { ends = record { told = rw h at p; some = l; inside = m }; below = y }
 
-    -- they end within s
-    pub bits_inside : k ≤ length s
-    bits_inside = bits_is.ends.inside
-
 -- the row of a prefix
 pub prefix_made : {v : Width} {high : Halves} (a n : ℕ) (low : Halves) → v ≡ width_of a → high ≡ halves (one_filled (bits v) n (whole low)) → low.lower < 2 ^ 64
     → ◌≡◌ {A = Row} (record { space = a; inherit = 0; low = low; high = high }) (in_halves (listed_row a (whole low, one_filled (across a) n (whole low))))
@@ -132,48 +128,6 @@ module _ {v : Width} {r : Taken begun.Start} (a : ℕ) (s : List ℕ) (e : v ≡
   prefix_took b k h g =
       row_took (prefix_at (across a) s) a s (whole b.address) (one_filled (across a) b.bits (whole b.address)) k g
       (sift_took (λ (b : ℕ × ℕ). spanned (span_of (across a) (as_prefix b))) (bits_at (across a) s) s (b.bits, whole b.address) k (rw e at (bits_is (bits v) s p i b k h).ends) _ refl)
-
--- min and max that were taken, and addresses of w bits
-pub record Limited (w : ℕ) (s : List ℕ) (b d : begun.Start) : Type 0 where
-  pub told : is ((b.bits, whole b.address), (d.bits, whole d.address)) ≡ bounds_of w s
-  pub min : whole b.address < 2 ^ w
-  pub max : whole d.address < 2 ^ w
-
--- as a contract has it
-pub limited : {w : ℕ} {s : List ℕ} {b d : begun.Start} → Limited w s b d → (is ((b.bits, whole b.address), (d.bits, whole d.address)) ≡ bounds_of w s) × ((whole b.address < 2 ^ w) × (whole d.address < 2 ^ w))
-limited r = (r.told, (r.min, r.max))
-
--- the ends of `bounds_of`
-module _ {r : Taken begun.Start} (w : ℕ) (s : List ℕ) (p : bits_seen s r ≡ bits_at w s) (i : BitsIn w (length s) r) where
-  -- min is refused
-  pub bounds_first : (f : Fault) → r ≡ Err f → Isnt (bounds_of w s) (length s) f
-  unfolding bounds_of
-  bounds_first f h = join_first (bits_at w) (λ x. bits_at w) s f (bits_bad w s p i f h)
-
-  module _ {t : Taken begun.Start} (b : begun.Start) (k : ℕ) (h : r ≡ Ok (b, k)) (g : bits_seen (take (length s - k) (drop k s)) t ≡ bits_at w (take (length s - k) (drop k s)))
-      (l : BitsIn w (length (take (length s - k) (drop k s))) t) where
-    -- max is refused
-    pub bounds_second : (f : Fault) → t ≡ Err f → Isnt (bounds_of w s) (length s) (later k f)
-    unfolding bounds_of
-    bounds_second f e = join_second (bits_at w) (λ x. bits_at w) s (b.bits, whole b.address) k (bits_is w s p i b k h).ends f (bits_bad w _ g l f e)
-
-    -- its place fits
-    pub bounds_fits : (f : Fault) → t ≡ Err f → length s < 2 ^ 64 → k + f.place < 2 ^ 64
-    bounds_fits f e z = omega (arith, (bounds_second f e).inside)
-
-    module _ (d : begun.Start) (j : ℕ) (e : t ≡ Ok (d, j)) where
-      -- octets are left
-      pub bounds_over : j < length (take (length s - k) (drop k s)) → Isnt (bounds_of w s) (length s) (at (k + j) refusal.OctetsLeft)
-      unfolding bounds_of
-      bounds_over o = join_over (bits_at w) (λ x. bits_at w) s (b.bits, whole b.address) k (bits_is w s p i b k h).ends (d.bits, whole d.address) j (bits_is w _ g l d j e).ends o
-
-      -- min and max
-      pub bounds_both : length (take (length s - k) (drop k s)) ≤ j → Limited w s b d
-      unfolding bounds_of
-      bounds_both o =
-          let u = bits_is w s p i b k h in
-          let v = bits_is w _ g l d j e in
-          record { told = join_both (bits_at w) (λ x. bits_at w) s (b.bits, whole b.address) k u.ends (d.bits, whole d.address) j v.ends o; min = u.below; max = v.below }
 
 -- the ends of `range_row`: high is max with ones after its bits
 module _ {v : Width} {high : Halves} {t : Bool} (a n : ℕ) (low : Halves) (m : ℕ) (max : Halves) (e : v ≡ width_of a) (p : high ≡ halves (one_filled (bits v) m (whole max)))
@@ -239,41 +193,6 @@ ranged_some a (span x y) r h =
     let e : r ≡ in_halves (listed_row a (x, y)) = cc in
     rw (e, whole_halves x, whole_halves y) (refl, refl)
 ranged_some a none r h = let z : ◌≡◌ {A = ℕ} 0 1 = cc in absurd (omega arith)
-
--- min and max of a range that was taken, and addresses of w bits
-pub record Bounded (w : ℕ) (s : List ℕ) (p : begun.Start × begun.Start) (k : ℕ) : Type 0 where
-  pub ends : Took (range_at w s) s ((p.0.bits, whole p.0.address), (p.1.bits, whole p.1.address)) k
-  pub min : whole p.0.address < 2 ^ w
-  pub max : whole p.1.address < 2 ^ w
-
--- as a contract has it
-pub bounded : {w : ℕ} {s : List ℕ} {p : begun.Start × begun.Start} {k : ℕ} → Bounded w s p k
-    → (part ((p.0.bits, whole p.0.address), (p.1.bits, whole p.1.address)) (drop k s) ≡ range_at w s) × ((whole p.0.address < 2 ^ w) × (whole p.1.address < 2 ^ w) × ((0 < k) × (k ≤ length s)))
-bounded r = let t = r.ends in (t.told, (r.min, r.max, (t.some, t.inside)))
-
--- the ends of `bounds_at`
-module _ {o : Opening} (s : List ℕ) (p : o ≡ opening_of SEQUENCE s) where
-  -- the head is refused
-  pub any_refused : (w : ℕ) (f : Refusal) → o ≡ Err f → Refused (range_at w s) (length s) (at 0 f)
-  unfolding range_at
-  any_refused w f q = tag_refused SEQUENCE s p _ f q
-
-  module _ {b : Read (begun.Start × begun.Start)} (w k e : ℕ) (q : o ≡ Ok (k, e)) (g : bounds_seen b ≡ bounds_of w (take (e - k) (drop k s))) (i : BoundsIn w (length (take (e - k) (drop k s))) b) where
-    -- the contents are
-    pub any_isnt : (f : Fault) → b ≡ Err f → Refused (range_at w s) (length s) (later k f)
-    unfolding range_at
-    any_isnt f h = tag_isnt SEQUENCE s p k e q (λ k c. moved k (bounds_of w c)) (later k f) (ap (moved k) (sym (rw h at g))) (tag_place SEQUENCE s p k e q f.place (rw h at i))
-
-    -- their place fits
-    pub any_fits : (f : Fault) → b ≡ Err f → length s < 2 ^ 64 → k + f.place < 2 ^ 64
-    any_fits f h l = omega (arith, (any_isnt f h).inside)
-
-    -- min and max
-    pub any_took : (d : begun.Start × begun.Start) → b ≡ Ok d → Bounded w s d e
-    unfolding range_at
-    any_took d h =
-        let (u, v) = rw h at i in
-        record { ends = tag_took SEQUENCE s p k e q (λ k c. moved k (bounds_of w c)) _ (ap (moved k) (sym (rw h at g))); min = u; max = v }
 
 -- the ends of `range_at`: what `bounds_at` answered
 module _ {v : Width} {b : Taken (begun.Start × begun.Start)} (a : ℕ) (s : List ℕ) (e : v ≡ width_of a) (p : bounds_at_seen s b ≡ range_at (bits v) s) (i : BoundsAtIn (bits v) (length s) b) where

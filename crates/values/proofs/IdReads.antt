@@ -1,5 +1,5 @@
 -- What the code of `ids` finds at each of its ends, in the terms of the definitions: for AS numbers and routing domain identifiers alike, over the number of the space. Theorems. Assumes nothing.
---     range_made, none_made     the rows.       integer_..      `any_integer_at`.       pair_..     `pair_of`, `any_pair_at` and `pair_at`
+--     range_made, none_made     the rows.       integer_..      `any_integer_at`.       pair_..     `brief_pair`
 --     number_..    `brief_number`, and a number's row.     brief_..    what `brief_number` says.     span_..     a range's row
 use mathlib.Core.Path.{◌≡◌, refl, sym, ap, ◌∙◌}
 use mathlib.Core.List.{List}
@@ -21,19 +21,19 @@ use Rattle.der.specs.Integer.{integer_of, integer_size, integer_octets}
 use Rattle.der.specs.Opening.{opening_of}
 use Rattle.der.specs.Parts.{is}
 use Rattle.der.specs.declared.integers.BadInteger.{BadInteger}
-use Rattle.values.specs.Faults.{Fault, at, later, moved}
+use Rattle.values.specs.Faults.{Fault, at}
 use Rattle.values.specs.Choices.{listed_row}
-use Rattle.values.specs.Ids.{integer_contents, integer_at, pair_of, pair_at, apart, number_at, range_at}
-use Rattle.values.specs.Seen.{integer_seen, IntegerIn, pair_seen, PairIn, pair_at_seen, PairAtIn, range_seen}
+use Rattle.values.specs.Ids.{integer_contents, integer_at, pair_at, apart, number_at, range_at}
+use Rattle.values.specs.Seen.{integer_seen, IntegerIn, pair_at_seen, PairAtIn, range_seen}
 use Rattle.values.specs.Briefs.{is_brief, BriefNumber, BriefPair}
-use Rattle.values.proofs.Joins.{Refused, Took, Isnt, tag_refused, tag_isnt, tag_took, tag_place, join_first, join_second, join_over, join_both, sift_refused, sift_isnt, sift_took}
+use Rattle.values.proofs.Joins.{Refused, Took, tag_refused, tag_isnt, tag_took, sift_refused, sift_isnt, sift_took}
 use Rattle.values.proofs.RowReads.{Rowed, row_took}
 use Rattle.values.proofs.BriefReads.{brief_long, brief_tag, brief_least, brief_most, headed, both_taken, of_eight, begun}
 use Rattle.values.proofs.laws.Elements.{integer_laws, pair_laws, number_size, pair_size}
 use Rattle.der.specs.Opening.{Opening}
 use Rattle.std.specs.Prelude.{Result, Ok, Err}
 use Rattle.std.specs.Prelude.{Option, Some, None}
-use Rattle.values.specs.Faults.{Read, Taken}
+use Rattle.values.specs.Faults.{Taken}
 
 -- the row of a range
 pub range_made : {r : Row} (a x y : ℕ) → x < y → r ≡ in_halves (listed_row a (x, y)) → Some r ≡ range_seen a x y
@@ -139,39 +139,6 @@ module _ {r : Taken ℕ} (s : List ℕ) (p : integer_seen s r ≡ integer_at s) 
     integer_is : Took (integer_at s) s x k
     integer_is = let (l, m) = rw h at i in record { told = rw h at p; some = l; inside = m }
 
-    -- it ends within s
-    pub integer_inside : k ≤ length s
-    integer_inside = integer_is.inside
-
--- the ends of `pair_of`
-module _ {r : Taken ℕ} (s : List ℕ) (p : integer_seen s r ≡ integer_at s) (i : IntegerIn (length s) r) where
-  -- min is refused
-  pub pair_first : (f : Fault) → r ≡ Err f → Isnt (pair_of s) (length s) f
-  unfolding pair_of
-  pair_first f h = join_first integer_at (λ x. integer_at) s f (integer_bad s p i f h)
-
-  module _ {t : Taken ℕ} (x k : ℕ) (h : r ≡ Ok (x, k)) (g : integer_seen (take (length s - k) (drop k s)) t ≡ integer_at (take (length s - k) (drop k s)))
-      (l : IntegerIn (length (take (length s - k) (drop k s))) t) where
-    -- max is refused
-    pub pair_second : (f : Fault) → t ≡ Err f → Isnt (pair_of s) (length s) (later k f)
-    unfolding pair_of
-    pair_second f e = join_second integer_at (λ x. integer_at) s x k (integer_is s p i x k h) f (integer_bad _ g l f e)
-
-    -- its place fits
-    pub pair_fits : (f : Fault) → t ≡ Err f → length s < 2 ^ 64 → k + f.place < 2 ^ 64
-    pair_fits f e b = omega (arith, (pair_second f e).inside)
-
-    module _ (y j : ℕ) (e : t ≡ Ok (y, j)) where
-      -- octets are left
-      pub pair_over : j < length (take (length s - k) (drop k s)) → Isnt (pair_of s) (length s) (at (k + j) refusal.OctetsLeft)
-      unfolding pair_of
-      pair_over o = join_over integer_at (λ x. integer_at) s x k (integer_is s p i x k h) y j (integer_is _ g l y j e) o
-
-      -- min and max
-      pub pair_both : length (take (length s - k) (drop k s)) ≤ j → is (x, y) ≡ pair_of s
-      unfolding pair_of
-      pair_both o = join_both integer_at (λ x. integer_at) s x k (integer_is s p i x k h) y j (integer_is _ g l y j e) o
-
 -- the ends of `number_at`
 module _ {r : Taken ℕ} (s : List ℕ) (p : integer_seen s r ≡ integer_at s) (i : IntegerIn (length s) r) where
   -- nothing was read
@@ -183,29 +150,6 @@ module _ {r : Taken ℕ} (s : List ℕ) (p : integer_seen s r ≡ integer_at s) 
   pub number_took : {w : Row} (a x k : ℕ) → r ≡ Ok (x, k) → w ≡ in_halves (listed_row a (x, x)) → Rowed (number_at s) a s w k
   unfolding number_at
   number_took a x k h g = row_took (number_at s) a s x x k g (sift_took (λ (y : ℕ). is (y, y)) (integer_at s) s x k (integer_is s p i x k h) (x, x) refl)
-
--- the ends of `any_pair_at`
-module _ {o : Opening} (s : List ℕ) (p : o ≡ opening_of SEQUENCE s) where
-  -- the head is refused
-  pub pair_refused : (f : Refusal) → o ≡ Err f → Refused (pair_at s) (length s) (at 0 f)
-  unfolding pair_at
-  pair_refused f q = tag_refused SEQUENCE s p _ f q
-
-  module _ {b : Read (ℕ × ℕ)} (k e : ℕ) (q : o ≡ Ok (k, e)) (g : pair_seen b ≡ pair_of (take (e - k) (drop k s))) where
-    -- the contents are
-    pub pair_isnt : (f : Fault) → b ≡ Err f → PairIn (length (take (e - k) (drop k s))) b → Refused (pair_at s) (length s) (later k f)
-    unfolding pair_at
-    pair_isnt f h i =
-        tag_isnt SEQUENCE s p k e q (λ k c. moved k (pair_of c)) (later k f) (ap (moved k) (sym (rw h at g))) (tag_place SEQUENCE s p k e q f.place (rw h at i))
-
-    -- their place fits
-    pub pair_place : (f : Fault) → b ≡ Err f → PairIn (length (take (e - k) (drop k s))) b → length s < 2 ^ 64 → k + f.place < 2 ^ 64
-    pair_place f h i l = omega (arith, (pair_isnt f h i).inside)
-
-    -- min and max
-    pub pair_took : (x y : ℕ) → b ≡ Ok (x, y) → Took (pair_at s) s (x, y) e
-    unfolding pair_at
-    pair_took x y h = tag_took SEQUENCE s p k e q (λ k c. moved k (pair_of c)) (x, y) (ap (moved k) (sym (rw h at g)))
 
 -- the ends of `range_at`
 module _ {r : Taken (ℕ × ℕ)} (s : List ℕ) (p : pair_at_seen s r ≡ pair_at s) (i : PairAtIn (length s) r) where

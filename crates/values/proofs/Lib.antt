@@ -13,6 +13,7 @@ pub mod Joins
 pub mod Exits
 pub mod Listing
 pub mod MemberReads
+pub mod PairReads
 pub mod Parting
 pub mod RowReads
 pub mod Settling

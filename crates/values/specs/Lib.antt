@@ -11,6 +11,7 @@ pub mod Identifiers
 pub mod Tables
 pub mod Starred
 pub mod Seen
+pub mod Pairs
 pub mod Briefs
 pub mod Into
 pub mod Encode

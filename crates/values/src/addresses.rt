@@ -8,10 +8,10 @@ ghost use Rattle.table.specs.Spaces.{width_of};
 ghost use Rattle.values.specs.Forms.{ranged};
 ghost use Rattle.values.specs.Addresses as spec;
 ghost use Rattle.values.specs.Choices.{listed_row};
-ghost use Rattle.values.specs.Seen.{bits_seen, BitsIn, bounds_seen, BoundsIn, bounds_at_seen, BoundsAtIn, ranged_seen, found_seen, FoundIn};
+ghost use Rattle.values.specs.Seen.{bits_seen, BitsIn, bounds_at_seen, BoundsAtIn, ranged_seen, found_seen, FoundIn};
 
-use crate::brief_addresses;
-use crate::faults::{Fault, Read, Taken, after};
+use crate::faults::Taken;
+use crate::{brief_addresses, pairs};
 use der::{bits, heads, tags};
 use number::halves::{Halves, Width};
 use number::refusal::Refusal;
@@ -61,28 +61,12 @@ fn prefix_at(space: u64, s: &[u8]) -> Taken<Row>
     Ok((prefix_row(space, prefix), end))
 }
 
-// The contents of a range: min, then max, then nothing.
-fn bounds_of(width: Width, s: &[u8]) -> Read<(Start, Start)>
-    ensures seen { bounds_seen result ≡ spec.bounds_of (bits_of width) s.now }
-    ensures inside { BoundsIn (bits_of width) (length s.now) result }
-{
-    let (min, k) = bits_at(width, s)?;
-    let rest = &s[k..];
-    let (max, j) = after(k, bits_at(width, rest))?;
-    if j < rest.len() {
-        return Err(Fault::at(k + j, Refusal::OctetsLeft));
-    }
-    Ok((min, max))
-}
-
 // The range that s begins with, by its head and its contents.
 fn bounds_at(width: Width, s: &[u8]) -> Taken<(Start, Start)>
     ensures seen { bounds_at_seen s.now result ≡ spec.range_at (bits_of width) s.now }
     ensures inside { BoundsAtIn (bits_of width) (length s.now) result }
 {
-    let (k, end) = heads::open(tags::SEQUENCE, s)?;
-    let bounds = after(k, bounds_of(width, &s[k..end]))?;
-    Ok((bounds, end))
+    pairs::pair_at(|part| bits_at(width, part), s)
 }
 
 // The row of a range, or none where min and max are not its one form: "min must be below max"; min keeps no trailing zero, max no trailing one but the kept one; "a range that is a prefix must be written as a prefix".

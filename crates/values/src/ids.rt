@@ -4,11 +4,11 @@ ghost use Rattle.std.specs.Prelude.{◌≡◌, length};
 ghost use Rattle.table.specs.Rows.{in_halves};
 ghost use Rattle.values.specs.Choices.{listed_row};
 ghost use Rattle.values.specs.Ids as spec;
-ghost use Rattle.values.specs.Seen.{integer_seen, IntegerIn, pair_seen, PairIn, pair_at_seen, PairAtIn, range_seen, found_seen, FoundIn};
+ghost use Rattle.values.specs.Seen.{integer_seen, IntegerIn, pair_at_seen, PairAtIn, range_seen, found_seen, FoundIn};
 ghost use Rattle.values.specs.Briefs.{BriefNumber, BriefPair};
 
-use crate::briefs;
-use crate::faults::{Fault, Read, Taken, after};
+use crate::faults::Taken;
+use crate::{briefs, pairs};
 use der::{heads, integers, tags};
 use number::address;
 use number::halves::Halves;
@@ -89,28 +89,12 @@ fn integer_at(s: &[u8]) -> Taken<u32>
     }
 }
 
-// The contents of a range: min, then max, then nothing. Not by `integer_at`: where both are brief, `pair_at` has taken them.
-fn pair_of(s: &[u8]) -> Read<(u32, u32)>
-    ensures seen { pair_seen result ≡ spec.pair_of s.now }
-    ensures inside { PairIn (length s.now) result }
-{
-    let (min, k) = any_integer_at(s)?;
-    let rest = &s[k..];
-    let (max, j) = after(k, any_integer_at(rest))?;
-    if j < rest.len() {
-        return Err(Fault::at(k + j, Refusal::OctetsLeft));
-    }
-    Ok((min, max))
-}
-
-// The range that s begins with, by its head and its contents.
+// The range that s begins with, by its head and its contents. Not by `integer_at`: where both are brief, `pair_at` has taken them.
 fn any_pair_at(s: &[u8]) -> Taken<(u32, u32)>
     ensures seen { pair_at_seen s.now result ≡ spec.pair_at s.now }
     ensures inside { PairAtIn (length s.now) result }
 {
-    let (k, end) = heads::open(tags::SEQUENCE, s)?;
-    let pair = after(k, pair_of(&s[k..end]))?;
-    Ok((pair, end))
+    pairs::pair_at(any_integer_at, s)
 }
 
 // The range of two brief INTEGERs that s begins with, and how many octets it took.

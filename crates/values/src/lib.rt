@@ -12,5 +12,6 @@ pub mod faults;
 mod identifiers;
 pub mod ids;
 pub mod limits;
+mod pairs;
 pub mod parts;
 pub mod readings;
