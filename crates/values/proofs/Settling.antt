@@ -1,38 +1,26 @@
 -- What the readers answer and leave, by what was counted. Theorems. Assumes nothing.
---     answer_..    the exits of `answer`;   ip_.., as_..   of a step;   read_ip_.., read_as_..   of a reader alone;   after_.., both_..   of both values
---     ip_in_.., as_in_.., both_in_..       the places of their refusals
+--     tests_..    the tests before a value is read;   step_..   of a step;   alone_..   of a reader alone;   after_.., both_..   of both values
 use mathlib.Core.Path.{◌≡◌, refl, sym, ap, ◌∙◌}
 use mathlib.Core.List.{List}
+use mathlib.Core.Bool.{Bool, true, false}
+use Rattle.number.specs.Tests.{pick}
 use Prim.Native.Nat.{ℕ, ◌≤◌, ◌<◌}
 use native.Mathlib.Omega.{arith}
 use lib.ListN.{length}
+use lib.Dec.{ltb, eqb}
 use borrow.Author.Tests.{lt-ltb, le-ltb, eq-eqb, ne_eqb}
-use Rattle.number.specs.declared.refusal.Refusal.{Refusal}
 use Rattle.number.specs.declared.refusal.Refusal.TheVariants as refusal
 use Rattle.table.specs.Sizes.{table_numbers}
 use Rattle.table.specs.Rows.{Row, cleared}
 use Rattle.der.specs.Parts.{Contents, is, isnt}
 use Rattle.values.specs.Faults.{Fault, at, Read}
-use Rattle.values.specs.Limits.{ip_extension, as_extension, max_octets}
-use Rattle.values.specs.Blocks.{read_blocks}
-use Rattle.values.specs.Identifiers.{read_identifiers}
-use Rattle.values.specs.Tables.{tabled, blocks_rows, identifiers_rows, ip_rows, as_rows}
+use Rattle.values.specs.Limits.{max_octets}
+use Rattle.values.specs.Tables.{tabled}
 use Rattle.values.specs.Into.{Stands, CountedInto}
-use Rattle.values.specs.Inside.{IpIn, AsIn, BothIn}
-use Rattle.values.specs.Readings.{Left, refused_at, answered, settled, step_of, step_ip, step_as, alone, read_ip, read_as, on_as, step_both, read_both}
+use Rattle.values.specs.Readings.{naming, Admission, admitted, admitted_alone, Left, refused_with, refused_at, answered, settled, step_of, step_ip, step_as, alone, on_as, step_both, read_both}
 use Rattle.values.specs.declared.readings.Refused as refused
-use Rattle.values.proofs.Answers.{counted_bad}
-use Rattle.std.specs.Prelude.{Ok, Err}
+use Rattle.std.specs.Prelude.{Result, Ok, Err}
 use Rattle.values.specs.Readings.{Reading}
-
--- what `answer` finds
-module _ (extension : ℕ) (c : Read ℕ) (t : List ℕ) where
-  pub answer_rows : (n : ℕ) → c ≡ Ok n → ◌≡◌ {A = Left} (Ok n, t) (answered extension c t)
-  answer_rows n e = rw e
-
-  pub answer_bad : (r : Fault) (x : Reading) (t' : List ℕ) → c ≡ Err r → x ≡ refused_at r.refusal extension r.place → t' ≡ cleared table_numbers t
-      → ◌≡◌ {A = Left} (x, t') (answered extension c t)
-  answer_bad r x t' e q u = rw (e, q, u)
 
 -- zeros in the place of whatever was written
 cleared_stands : (t t' : List ℕ) → Stands t t' → cleared table_numbers t' ≡ cleared table_numbers t
@@ -45,79 +33,53 @@ settle : {X : Type 0} (rows : X → List Row) (extension m n : ℕ) (t : List �
 settle rows extension m n t (is x) c t' h = rw (h.0, h.1)
 settle rows extension m n t (isnt f) c t' h = rw h.0 (ap (λ (y : List ℕ). (refused_at f.refusal extension f.place, y)) (cleared_stands t t' h.2))
 
--- the exits of a step
-module _ (extension n : ℕ) (rows : Contents (List Row) Fault) (v t : List ℕ) where
-  step_short : (x : Reading) → length t < table_numbers → x ≡ refused_at refusal.TableShort 0 0 → ◌≡◌ {A = Left} (x, t) (step_of extension n rows v t)
-  step_short x h e = rw (lt-ltb (length t) table_numbers h, e)
+-- the tests before a value is read: what follows them is l where they are passed
+abbrev tested_then : ℕ → Bool → Bool → List ℕ → Left → Left
+tested_then extension a b t l = pick a (refused_at refusal.TableShort 0 0, t) (pick b (refused_with extension (at 0 refusal.ValueSize) t) l)
 
-  step_large : (l : Left) → table_numbers ≤ length t → max_octets < length v → l ≡ answered extension (Err (at 0 refusal.ValueSize)) t → l ≡ step_of extension n rows v t
-  step_large l h g e = rw (le-ltb (length t) table_numbers h, lt-ltb max_octets (length v) g) e
+module _ (extension : ℕ) (t w : List ℕ) (l : Left) (x : Result (Unit {0}) refused.Refused) (t' : List ℕ) where
+  abbrev Tests : Bool → Bool → Type 0
+  Tests a b = ◌≡◌ {A = Admission} (x, t') (pick a (Err (naming refusal.TableShort 0 0 0), t) (pick b (Err (naming refusal.ValueSize 0 extension 0), cleared table_numbers t) (Ok tt, w)))
 
-  step_read : (l : Left) → table_numbers ≤ length t → length v ≤ max_octets → l ≡ settled extension n rows t → l ≡ step_of extension n rows v t
-  step_read l h g e = rw (le-ltb (length t) table_numbers h, le-ltb max_octets (length v) g) e
+  -- the two refusals
+  err_so : (r f : refused.Refused) (u : List ℕ) → ◌≡◌ {A = Admission} (x, t') (Err f, u) → x ≡ Err r → ◌≡◌ {A = Left} (Err r, t') (Err f, u)
+  err_so r f u p q =
+      let e : ◌≡◌ {A = Result (Unit {0}) refused.Refused} (Err r) (Err f) = sym q ∙ ap (λ (z : Admission). z.0) p in
+      let i : r ≡ f = cc in
+      rw (i, ap (λ (z : Admission). z.1) p) refl
 
-module _ (v t : List ℕ) where
-  pub ip_short : (x : Reading) → length t < table_numbers → x ≡ refused_at refusal.TableShort 0 0 → ◌≡◌ {A = Left} (x, t) (step_ip v t)
-  unfolding step_ip
-  ip_short = step_short ip_extension 0 (ip_rows v) v t
+  -- one is not the other
+  not_both : {r : refused.Refused} {C : Type 0} → ◌≡◌ {A = Result (Unit {0}) refused.Refused} (Ok tt) (Err r) → C
+  not_both e = let z : ◌≡◌ {A = ℕ} 0 1 = cc in absurd (omega arith)
 
-  pub ip_large : (x : Reading) (t' : List ℕ) → table_numbers ≤ length t → max_octets < length v → ◌≡◌ {A = Left} (x, t') (answered ip_extension (Err (at 0 refusal.ValueSize)) t) → ◌≡◌ {A = Left} (x, t') (step_ip v t)
-  unfolding step_ip
-  ip_large x t' = step_large ip_extension 0 (ip_rows v) v t (x, t')
+  tests_refused : (a b : Bool) (r : refused.Refused) → Tests a b → x ≡ Err r → ◌≡◌ {A = Left} (Err r, t') (tested_then extension a b t l)
+  tests_refused true b r p q = err_so r _ _ p q
+  tests_refused false true r p q = err_so r _ _ p q
+  tests_refused false false r p q = not_both (sym (ap (λ (z : Admission). z.0) p) ∙ q)
 
-  pub ip_read : (x : Reading) (t' u : List ℕ) (c : Read ℕ) → table_numbers ≤ length t → length v ≤ max_octets → CountedInto blocks_rows (length v) 0 t (read_blocks v) c u
-      → ◌≡◌ {A = Left} (x, t') (answered ip_extension c u) → ◌≡◌ {A = Left} (x, t') (step_ip v t)
-  unfolding step_ip ip_rows
-  ip_read x t' u c h g i e = step_read ip_extension 0 (tabled blocks_rows (read_blocks v)) v t (x, t') h g (e ∙ settle blocks_rows ip_extension (length v) 0 t (read_blocks v) c u i)
+  tests_passed : (a b : Bool) → Tests a b → x ≡ Ok tt → (t' ≡ w) × (l ≡ tested_then extension a b t l)
+  tests_passed true b p q = not_both (sym q ∙ ap (λ (z : Admission). z.0) p)
+  tests_passed false true p q = not_both (sym q ∙ ap (λ (z : Admission). z.0) p)
+  tests_passed false false p q = (ap (λ (z : Admission). z.1) p, refl)
 
-  pub as_short : (n : ℕ) (x : Reading) → length t < table_numbers → x ≡ refused_at refusal.TableShort 0 0 → ◌≡◌ {A = Left} (x, t) (step_as v n t)
-  unfolding step_as
-  as_short n = step_short as_extension n (as_rows n v) v t
+-- the exits of a step and of a reader alone, by what its tests answered
+module _ (extension : ℕ) (v t : List ℕ) (x : Result (Unit {0}) refused.Refused) (t' : List ℕ) where
+  pub step_refused : (n : ℕ) (rows : Contents (List Row) Fault) (r : refused.Refused) → ◌≡◌ {A = Admission} (x, t') (admitted extension v t) → x ≡ Err r → ◌≡◌ {A = Left} (Err r, t') (step_of extension n rows v t)
+  step_refused n rows r = tests_refused extension t t (settled extension n rows t) x t' (ltb (length t) table_numbers) (ltb max_octets (length v)) r
 
-  pub as_large : (n : ℕ) (x : Reading) (t' : List ℕ) → table_numbers ≤ length t → max_octets < length v → ◌≡◌ {A = Left} (x, t') (answered as_extension (Err (at 0 refusal.ValueSize)) t) → ◌≡◌ {A = Left} (x, t') (step_as v n t)
-  unfolding step_as
-  as_large n x t' = step_large as_extension n (as_rows n v) v t (x, t')
+  pub step_read : {X : Type 0} (rows : X → List Row) (n : ℕ) (o : Contents X Fault) (c : Read ℕ) (w : List ℕ) (l : Left) → ◌≡◌ {A = Admission} (x, t') (admitted extension v t) → x ≡ Ok tt
+      → CountedInto rows (length v) n t' o c w → l ≡ answered extension c w → l ≡ step_of extension n (tabled rows o) v t
+  step_read rows n o c w l p q i e =
+      let (k, s) = tests_passed extension t t (settled extension n (tabled rows o) t) x t' (ltb (length t) table_numbers) (ltb max_octets (length v)) p q in
+      e ∙ settle rows extension (length v) n t o c w (rw k at i) ∙ s
 
-  pub as_read : (n : ℕ) (x : Reading) (t' u : List ℕ) (c : Read ℕ) → table_numbers ≤ length t → length v ≤ max_octets → CountedInto identifiers_rows (length v) n t (read_identifiers n v) c u
-      → ◌≡◌ {A = Left} (x, t') (answered as_extension c u) → ◌≡◌ {A = Left} (x, t') (step_as v n t)
-  unfolding step_as as_rows
-  as_read n x t' u c h g i e = step_read as_extension n (tabled identifiers_rows (read_identifiers n v)) v t (x, t') h g (e ∙ settle identifiers_rows as_extension (length v) n t (read_identifiers n v) c u i)
+  pub alone_refused : (step : List ℕ → Left) (r : refused.Refused) → ◌≡◌ {A = Admission} (x, t') (admitted_alone extension v t) → x ≡ Err r → ◌≡◌ {A = Left} (Err r, t') (alone extension v step t)
+  alone_refused step r = tests_refused extension t (cleared table_numbers t) (step (cleared table_numbers t)) x t' (ltb (length t) table_numbers) (eqb (length v) 0) r
 
--- the exits of a reader alone
-module _ (extension : ℕ) (v : List ℕ) (step : List ℕ → Left) (t : List ℕ) where
-  alone_short : (x : Reading) → length t < table_numbers → x ≡ refused_at refusal.TableShort 0 0 → ◌≡◌ {A = Left} (x, t) (alone extension v step t)
-  alone_short x h e = rw (lt-ltb (length t) table_numbers h, e)
-
-  alone_empty : (x : Reading) (t' : List ℕ) → table_numbers ≤ length t → length v ≡ 0 → x ≡ refused_at refusal.ValueSize extension 0 → t' ≡ cleared table_numbers t → ◌≡◌ {A = Left} (x, t') (alone extension v step t)
-  alone_empty x t' h g e u = rw (le-ltb (length t) table_numbers h, eq-eqb (length v) 0 g, e, u)
-
-  alone_step : (l : Left) (t' : List ℕ) → table_numbers ≤ length t → (length v ≡ 0 → ⊥) → t' ≡ cleared table_numbers t → l ≡ step t' → l ≡ alone extension v step t
-  alone_step l t' h g u e = rw (le-ltb (length t) table_numbers h, ne_eqb (length v) 0 g, ← u) e
-
-module _ (v t : List ℕ) where
-  pub read_ip_short : (x : Reading) → length t < table_numbers → x ≡ refused_at refusal.TableShort 0 0 → ◌≡◌ {A = Left} (x, t) (read_ip v t)
-  unfolding read_ip
-  read_ip_short = alone_short ip_extension v (step_ip v) t
-
-  pub read_ip_empty : (x : Reading) (t' : List ℕ) → table_numbers ≤ length t → length v ≡ 0 → x ≡ refused_at refusal.ValueSize ip_extension 0 → t' ≡ cleared table_numbers t → ◌≡◌ {A = Left} (x, t') (read_ip v t)
-  unfolding read_ip
-  read_ip_empty = alone_empty ip_extension v (step_ip v) t
-
-  pub read_ip_step : (x : Reading) (y t' : List ℕ) → table_numbers ≤ length t → (length v ≡ 0 → ⊥) → t' ≡ cleared table_numbers t → ◌≡◌ {A = Left} (x, y) (step_ip v t') → ◌≡◌ {A = Left} (x, y) (read_ip v t)
-  unfolding read_ip
-  read_ip_step x y = alone_step ip_extension v (step_ip v) t (x, y)
-
-  pub read_as_short : (x : Reading) → length t < table_numbers → x ≡ refused_at refusal.TableShort 0 0 → ◌≡◌ {A = Left} (x, t) (read_as v t)
-  unfolding read_as
-  read_as_short = alone_short as_extension v (step_as v 0) t
-
-  pub read_as_empty : (x : Reading) (t' : List ℕ) → table_numbers ≤ length t → length v ≡ 0 → x ≡ refused_at refusal.ValueSize as_extension 0 → t' ≡ cleared table_numbers t → ◌≡◌ {A = Left} (x, t') (read_as v t)
-  unfolding read_as
-  read_as_empty = alone_empty as_extension v (step_as v 0) t
-
-  pub read_as_step : (x : Reading) (y t' : List ℕ) → table_numbers ≤ length t → (length v ≡ 0 → ⊥) → t' ≡ cleared table_numbers t → ◌≡◌ {A = Left} (x, y) (step_as v 0 t') → ◌≡◌ {A = Left} (x, y) (read_as v t)
-  unfolding read_as
-  read_as_step x y = alone_step as_extension v (step_as v 0) t (x, y)
+  pub alone_step : (step : List ℕ → Left) (l : Left) → ◌≡◌ {A = Admission} (x, t') (admitted_alone extension v t) → x ≡ Ok tt → l ≡ step t' → l ≡ alone extension v step t
+  alone_step step l p q e =
+      let (k, s) = tests_passed extension t (cleared table_numbers t) (step (cleared table_numbers t)) x t' (ltb (length t) table_numbers) (eqb (length v) 0) p q in
+      e ∙ ap step k ∙ s
 
 -- the AS value after the IP value
 module _ (v t : List ℕ) (n : ℕ) where
@@ -151,45 +113,3 @@ module _ (ip ids t : List ℕ) where
 
     pub both_step : (n : ℕ) (x : Reading) (y : List ℕ) → z ≡ Ok n → ◌≡◌ {A = Left} (x, y) (on_as ids t' (Ok n)) → ◌≡◌ {A = Left} (x, y) (step_both ip ids t)
     both_step n x y e q = rw (opened, e) q
-
--- the places
-pub ip_in_zero : (r : Refusal) (extension m : ℕ) (x : Reading) → x ≡ refused_at r extension 0 → IpIn m x
-ip_in_zero r extension m x e = rw e (λ q. omega arith, λ q. refl)
-
-as_in_zero : (r : Refusal) (extension m : ℕ) (x : Reading) → (extension ≡ ip_extension → ⊥) → x ≡ refused_at r extension 0 → AsIn m x
-as_in_zero r extension m x h e = rw e (h, omega arith)
-
-pub as_in_short : (m : ℕ) (x : Reading) → x ≡ refused_at refusal.TableShort 0 0 → AsIn m x
-as_in_short m x e = as_in_zero refusal.TableShort 0 m x (λ q. omega arith) e
-
-pub both_in_zero : (r : Refusal) (extension m k : ℕ) (x : Reading) → x ≡ refused_at r extension 0 → BothIn m k x
-both_in_zero r extension m k x e = rw e (λ q. omega arith, λ q. omega arith)
-
--- of what a reader counted
-ip_answered : (m : ℕ) (c : Read ℕ) (u : List ℕ) → ((r : Fault) → c ≡ Err r → r.place ≤ m) → IpIn m (answered ip_extension c u).0
-ip_answered m (Ok n) u h = tt
-ip_answered m (Err r) u h = (λ q. h r refl, λ q. absurd (q refl))
-
-as_answered : (m : ℕ) (c : Read ℕ) (u : List ℕ) → ((r : Fault) → c ≡ Err r → r.place ≤ m) → AsIn m (answered as_extension c u).0
-as_answered m (Ok n) u h = tt
-as_answered m (Err r) u h = ((λ q. omega arith), h r refl)
-
-pub ip_in_large : (m : ℕ) (x : Reading) (t' u : List ℕ) → ◌≡◌ {A = Left} (x, t') (answered ip_extension (Err (at 0 refusal.ValueSize)) u) → IpIn m x
-ip_in_large m x t' u e = ip_in_zero refusal.ValueSize ip_extension m x (ap (λ (l : Left). l.0) e)
-
-pub as_in_large : (m : ℕ) (x : Reading) (t' u : List ℕ) → ◌≡◌ {A = Left} (x, t') (answered as_extension (Err (at 0 refusal.ValueSize)) u) → AsIn m x
-as_in_large m x t' u e = as_in_zero refusal.ValueSize as_extension m x (λ q. omega arith) (ap (λ (l : Left). l.0) e)
-
-pub ip_in_read : (v t t' u : List ℕ) (x : Reading) (c : Read ℕ) → CountedInto blocks_rows (length v) 0 t (read_blocks v) c u → ◌≡◌ {A = Left} (x, t') (answered ip_extension c u) → IpIn (length v) x
-ip_in_read v t t' u x c i e = let q : (answered ip_extension c u).0 ≡ x = sym (ap (λ (l : Left). l.0) e) in rw q at (ip_answered (length v) c u (λ r h. (counted_bad blocks_rows (length v) 0 t u c (read_blocks v) i r h).inside))
-
-pub as_in_read : (v t t' u : List ℕ) (n : ℕ) (x : Reading) (c : Read ℕ) → CountedInto identifiers_rows (length v) n t (read_identifiers n v) c u → ◌≡◌ {A = Left} (x, t') (answered as_extension c u) → AsIn (length v) x
-as_in_read v t t' u n x c i e = let q : (answered as_extension c u).0 ≡ x = sym (ap (λ (l : Left). l.0) e) in rw q at (as_answered (length v) c u (λ r h. (counted_bad identifiers_rows (length v) n t u c (read_identifiers n v) i r h).inside))
-
--- of both
-pub both_in_ip : (m k : ℕ) (x : Reading) (f : refused.Refused) → IpIn m x → x ≡ Err f → BothIn m k x
-both_in_ip m k x f h e = rw e (let g : IpIn m (Err f) = rw e at h in (g.0, λ q. omega (arith, g.1 q)))
-
-pub both_in_as : (m k : ℕ) (x : Reading) → AsIn k x → BothIn m k x
-both_in_as m k (Ok n) h = tt
-both_in_as m k (Err f) h = ((λ q. absurd (h.0 q)), λ q. h.1)

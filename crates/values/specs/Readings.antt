@@ -1,5 +1,5 @@
 -- The readers: reply and table. "On 16 both tables are unchanged. Otherwise .. the first's hold the rows and then zeros (all zeros on refusal); later numbers are unchanged. The reader alone has one table, under the same rule; it tests 16 before 1."
-use Rattle.std.specs.Prelude.{ℕ, ◌+◌, List, length, ltb, eqb}
+use Rattle.std.specs.Prelude.{Bool, ℕ, ◌+◌, List, length, ltb, eqb}
 use Rattle.number.specs.Tests.{pick}
 use Rattle.number.specs.Halves.{halves}
 use Rattle.number.specs.declared.refusal.Refusal.{Refusal}
@@ -47,6 +47,24 @@ answered extension (Err f) t = refused_with extension f t
 abbrev pub settled : ℕ → ℕ → Contents (List Row) Fault → List ℕ → Left
 settled extension n (is rows) t = (Ok (n + length rows), with_rows t n rows)
 settled extension n (isnt f) t = refused_with extension f t
+
+-- what the tests before a value is read answer, and the table that they leave
+abbrev pub Admission : Type 0
+Admission = Result (Unit {0}) Refused × List ℕ
+
+-- 16 before 1, and a table w for what passes
+abbrev pub tested : ℕ → Bool → List ℕ → List ℕ → Admission
+tested extension b w t =
+    pick (ltb (length t) table_numbers) (Err (naming refusal.TableShort 0 0 0), t)
+    (pick b (Err (naming refusal.ValueSize 0 extension 0), cleared table_numbers t)
+    (Ok tt, w))
+
+-- before a step, and before a value is read by itself
+abbrev pub admitted : ℕ → List ℕ → List ℕ → Admission
+admitted extension v t = tested extension (ltb max_octets (length v)) t t
+
+abbrev pub admitted_alone : ℕ → List ℕ → List ℕ → Admission
+admitted_alone extension v t = tested extension (eqb (length v) 0) (cleared table_numbers t) t
 
 -- a value as a step of a path: its rows are counted on from n
 abbrev pub step_of : ℕ → ℕ → Contents (List Row) Fault → List ℕ → List ℕ → Left

@@ -3,7 +3,7 @@ ghost use Rattle.std.specs.Prelude.{◌≡◌, length};
 ghost use Rattle.values.specs.Readings as spec;
 ghost use Rattle.values.specs.Inside.{IpIn, AsIn, BothIn};
 
-use crate::faults::{Fault, Read};
+use crate::faults::Read;
 use crate::{blocks, identifiers, limits};
 use number::halves;
 use number::halves::Halves;
@@ -58,19 +58,41 @@ fn answer(extension: u64, counted: Read<usize>, table: &mut [u64]) -> Reading
     }
 }
 
+// The tests of a value as a step of a path, before it is read: 16 before 1.
+fn admit(extension: u64, value: &[u8], table: &mut [u64]) -> Result<(), Refused>
+    ensures { (result, table.new) ≡ spec.admitted extension value.now table.old }
+{
+    if table.len() < rows::NUMBERS {
+        return Err(naming(Refusal::TableShort, 0, 0, 0));
+    }
+    if limits::MAX_OCTETS < value.len() {
+        rows::clear(table, rows::NUMBERS);
+        return Err(naming(Refusal::ValueSize, 0, extension, 0));
+    }
+    Ok(())
+}
+
+// The tests of a value by itself, and a table of zeros for it: 16 before 1.
+fn admit_alone(extension: u64, value: &[u8], table: &mut [u64]) -> Result<(), Refused>
+    ensures { (result, table.new) ≡ spec.admitted_alone extension value.now table.old }
+{
+    if table.len() < rows::NUMBERS {
+        return Err(naming(Refusal::TableShort, 0, 0, 0));
+    }
+    rows::clear(table, rows::NUMBERS);
+    if value.len() == 0 {
+        return Err(naming(Refusal::ValueSize, 0, extension, 0));
+    }
+    Ok(())
+}
+
 // Reads an IPAddrBlocks value as a step of a path: its rows come first in the table.
 // Returns the rows so far, or the refusal; on a refusal but 16 the first 3,072 numbers of the table are zero.
 pub fn step_ip(value: &[u8], table: &mut [u64]) -> Reading
     ensures reply { (result, table.new) ≡ spec.step_ip value.now table.old }
     ensures inside { IpIn (length value.now) result }
 {
-    if table.len() < rows::NUMBERS {
-        return refuse(Refusal::TableShort, 0, 0);
-    }
-    if limits::MAX_OCTETS < value.len() {
-        let large = Err(Fault::from(Refusal::ValueSize));
-        return answer(limits::IP_EXTENSION, large, table);
-    }
+    admit(limits::IP_EXTENSION, value, table)?;
     let counted = blocks::read(value, table);
     answer(limits::IP_EXTENSION, counted, table)
 }
@@ -81,13 +103,7 @@ pub fn step_as(value: &[u8], count: usize, table: &mut [u64]) -> Reading
     ensures reply { (result, table.new) ≡ spec.step_as value.now count table.old }
     ensures inside { AsIn (length value.now) result }
 {
-    if table.len() < rows::NUMBERS {
-        return refuse(Refusal::TableShort, 0, 0);
-    }
-    if limits::MAX_OCTETS < value.len() {
-        let large = Err(Fault::from(Refusal::ValueSize));
-        return answer(limits::AS_EXTENSION, large, table);
-    }
+    admit(limits::AS_EXTENSION, value, table)?;
     let counted = identifiers::read(value, count, table);
     answer(limits::AS_EXTENSION, counted, table)
 }
@@ -97,13 +113,7 @@ pub fn step_as(value: &[u8], count: usize, table: &mut [u64]) -> Reading
 pub fn read_ip(value: &[u8], table: &mut [u64]) -> Reading
     ensures { (result, table.new) ≡ spec.read_ip value.now table.old }
 {
-    if table.len() < rows::NUMBERS {
-        return refuse(Refusal::TableShort, 0, 0);
-    }
-    rows::clear(table, rows::NUMBERS);
-    if value.len() == 0 {
-        return refuse(Refusal::ValueSize, limits::IP_EXTENSION, 0);
-    }
+    admit_alone(limits::IP_EXTENSION, value, table)?;
     step_ip(value, table)
 }
 
@@ -112,13 +122,7 @@ pub fn read_ip(value: &[u8], table: &mut [u64]) -> Reading
 pub fn read_as(value: &[u8], table: &mut [u64]) -> Reading
     ensures { (result, table.new) ≡ spec.read_as value.now table.old }
 {
-    if table.len() < rows::NUMBERS {
-        return refuse(Refusal::TableShort, 0, 0);
-    }
-    rows::clear(table, rows::NUMBERS);
-    if value.len() == 0 {
-        return refuse(Refusal::ValueSize, limits::AS_EXTENSION, 0);
-    }
+    admit_alone(limits::AS_EXTENSION, value, table)?;
     step_as(value, 0, table)
 }
 
