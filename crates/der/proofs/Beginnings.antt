@@ -1,5 +1,5 @@
 -- What the code of `bits` and of `integers` finds, in the terms of the definitions. Theorems. Assumes nothing.
---     unit_pos, no_octets, last_zeros     what `ends_in_zeros` finds
+--     unit_pos, last_zeros     what `ends_in_zeros` finds
 --     refused_.., taken       what `read` answers at each of its ends
 --     spelt        the number of at most five octets
 use mathlib.Core.Path.{◌≡◌, refl, sym, ap, ◌∙◌}
@@ -35,11 +35,6 @@ unit_is j h = shl_exact {a = 1} 1 j 8 (omega arith) (omega arith) ∙ omega arit
 -- it is no zero, so it divides
 pub unit_pos : (j : ℕ) → j < 8 → 0 < 1 * 2 ^ j % 2 ^ 8
 unit_pos j h = rw (unit_is j h) (pow_pos j)
-
--- no octets end in zeros
-pub no_octets : (s : List ℕ) (u : ℕ) → length s ≡ 0 → true ≡ eqb (value s % 2 ^ u) 0
-no_octets [] u h = sym (eq-eqb (0 % 2 ^ u) 0 (zero-mod (2 ^ u)))
-no_octets (x ∷ s) u h = absurd (omega arith)
 
 -- and others do where the last octet does
 pub last_zeros : (s : List ℕ) (u : ℕ) → u < 8 → (length s ≡ 0 → ⊥) → eqb (get_or s (length s - 1) 0 % (1 * 2 ^ u % 2 ^ 8)) 0 ≡ eqb (value s % 2 ^ u) 0

@@ -25,10 +25,6 @@ pub free_is : {z o r : ℕ} (w x y : ℕ) → z ≡ run 0 w x → o ≡ run 1 w 
 unfolding free
 free_is w x y e g h = omega arith
 
--- the test of `is_filled`, by the halves that were filled
-pub filled_test : {s : Bool} {filled : Halves} (y n : ℕ) → filled ≡ halves n → s ≡ eqb y (whole filled) → s ≡ eqb y n
-filled_test y n k t = t ∙ ap (eqb y) (ap whole k ∙ whole_halves n)
-
 -- the calls of `is_prefix`, in their order: the width, the bits that are free, the test
 module _ {f a : ℕ} (w x y : ℕ) (b : a ≡ w) (h : f ≡ free w x y) where
   -- they fit the width

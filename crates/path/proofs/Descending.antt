@@ -2,7 +2,7 @@
 --     value_.., after_is, is_carried    the values as `value` and `below` find them
 --     ip_there, ids_there               a certificate is left, so its two values are there
 --     descend_..                        the exits of `descend`
---     rest_fits, few_pairs, descending  what it hands on to `clear_rest` and to itself
+--     few_pairs, descending             what it hands on to itself
 use mathlib.Core.Path.{◌≡◌, refl, sym, ap, ap₂, subst, ◌∙◌}
 use mathlib.Core.List.{List, [], ◌∷◌}
 use mathlib.Core.Bool.{true}
@@ -105,10 +105,6 @@ module _ {left : ℕ} {rest own : List ℕ} {old : ℕ} {issuer : List ℕ} {abo
   count_theirs : length (rows_in above.rows issuer) ≡ above.rows
   count_theirs = ap length theirs ∙ length_rows_of above.rows issuer
 
-  -- what is to be cleared
-  pub clear_fits : row_numbers * old < 2 ^ 64
-  clear_fits = omega (arith, d.ours.few)
-
   -- no certificate is left: the last one's rows are in the issuer's table
   pub descend_end : left ≡ 0 → (t : List ℕ) → t ≡ cleared (row_numbers * old) own → ◌≡◌ {A = Left} (Ok (record { rows = above.rows; pairs = pairs }), t, issuer) (descended left rest own issuer above pairs)
   unfolding descended descent
@@ -167,10 +163,6 @@ module _ {left : ℕ} {rest own : List ℕ} {old : ℕ} {issuer : List ℕ} {abo
 
           small : Small a t.held
           small = certificate_small a t.held ip ids t.so
-
-          -- the old ones were within the table
-          pub rest_fits : row_numbers * old ≤ length own₁
-          rest_fits = omega (arith, d.ours.few, d.ours.long, ap length t.table ∙ length-with_rows own 0 t.held.0)
 
           -- its pairs are few
           pub few_pairs : more ≤ 2 * max_rows

@@ -1,5 +1,5 @@
 -- What the code of `brief_addresses` takes as a prefix or a range, in the terms of the definitions. Theorems. Assumes nothing.
---     brief_..     what `brief_bits` says.     prefix_span     `brief_prefix`.     both_..     `brief_range`.      short_row       `element`
+--     brief_..     what `brief_bits` says.     prefix_span     `brief_prefix`.     both_..     `brief_range`
 use mathlib.Core.Path.{◌≡◌, refl, sym, ap, ◌∙◌}
 use mathlib.Core.List.{List, ◌++◌}
 use Prim.Native.Nat.{ℕ, ◌+◌, ◌-◌, ◌≤◌, ◌<◌, ◌^◌}
@@ -88,9 +88,6 @@ module _ (b : Brief) (k : ℕ) (width : Width) (s : List ℕ) (p : BriefBits (bi
 -- two brief BIT STRINGs in a SEQUENCE
 module _ (b : Brief) (k : ℕ) (d : Brief) (j : ℕ) (width : Width) (s : List ℕ) (p : BriefBits (bits width) (take (length s - 2) (drop 2 s)) (Some (b, k)))
     (q : BriefBits (bits width) (take (length (take (length s - 2) (drop 2 s)) - k) (drop k (take (length s - 2) (drop 2 s)))) (Some (d, j))) where
-  -- how many octets they took fits
-  pub both_fit : k + j < 2 ^ 64
-  both_fit = omega (arith, brief_few b k width _ p, brief_few d j width _ q)
 
   -- they are read as a range
   pub both_span : {v last : ℕ} {a : Address} {low high : Halves} → a ≡ address_of width (placed_bits (bits width) b.bits) → low ≡ halves (number_of a) → last ≡ filled_bits d.count d.bits
@@ -106,10 +103,3 @@ module _ (b : Brief) (k : ℕ) (d : Brief) (j : ℕ) (width : Width) (s : List �
       (form_taken width (range b.count (placed_bits (bits width) b.bits) d.count (placed_bits (bits width) d.bits)) s (2 + k + j) _ _ o (x, y)
       (rw t at (both_taken s k j _ _ h (n ∙ e) (omega (arith, brief_few b k width _ p, brief_few d j width _ q)) a c))) in
       (omega arith, z.0, z.1)
-
--- the row of a brief element in the space a
-pub short_row : {v : Width} (a : ℕ) (s : List ℕ) (r : Span) (k : ℕ) → v ≡ width_of a → BriefSpan (bits v) s (Some (r, k))
-    → Rowed (address_at (bits (width_of a)) s) a s (record { space = a; inherit = 0; low = r.low; high = r.high }) k
-short_row a s r k e p =
-    let (l, t, i) = rw e at p in
-    record { ends = record { told = t; some = l; inside = i }; own = refl; lists = refl }

@@ -1,6 +1,6 @@
 -- What the functions of `choices` answer and leave of the table, at each of their ends. Assumes nothing.
 --     inherit_bad, inherit_contents, inherit_full, inherit_is      `inherit_at`
---     list_bad, list_isnt, list_fits, list_none, list_some        `list_at`
+--     list_bad, list_isnt, list_none, list_some        `list_at`
 --     choice_null, choice_list      `read`
 use mathlib.Core.Path.{◌≡◌, refl, sym, ap, ◌∙◌}
 use mathlib.Core.List.{List, [], ◌∷◌}
@@ -125,10 +125,6 @@ module _ (a : Space) (n : ℕ) (s t : List ℕ) (r : Opening) (p : r ≡ opening
       list_isnt f d =
           let g = counted_bad (listed_rows (space_number a)) inner n t t' c elements h f d in
           rw (list_by, ← g.was) (refl, tag_place SEQUENCE s p k e q f.place g.inside, g.stands)
-
-      -- whose place is in s
-      pub list_fits : (f : Fault) → c ≡ Err f → length s < 2 ^ 64 → k + f.place < 2 ^ 64
-      list_fits f d l = omega (arith, tag_place SEQUENCE s p k e q f.place (counted_bad (listed_rows (space_number a)) inner n t t' c elements h f d).inside)
 
       -- of no element
       pub list_none : (j : ℕ) → c ≡ Ok j → j ≡ n → ChosenInto (space_number a) s n t (listed_at a n s) (Err (at 0 refusal.EmptyList)) t'

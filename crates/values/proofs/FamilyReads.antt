@@ -1,6 +1,6 @@
 -- What the functions of `blocks` answer and leave of the table, at each of their ends. Theorems. Assumes nothing.
 --     family_space, family_choice, family_over, family_all      `family_of`.     blocks_bad, blocks_isnt, blocks_over, blocks_all      `read`
---     space_end, choice_fits, blocks_fits      their numbers
+--     space_end      its number
 use mathlib.Core.Path.{◌≡◌, refl, ap}
 use mathlib.Core.List.{List}
 use Prim.Native.Nat.{ℕ, ◌+◌, ◌-◌, ◌^◌, ◌≤◌, ◌<◌}
@@ -72,9 +72,6 @@ module _ (least n : ℕ) (s t : List ℕ) (a : Taken ℕ) (p : space_seen s a �
           let l : f.place ≤ length s - k = rw length-drop at d.inside in
           omega (arith, upto)
 
-      pub choice_fits : (f : Fault) → r ≡ Err f → length s < 2 ^ 64 → k + f.place < 2 ^ 64
-      choice_fits f u = lt_of_le_of_lt (choice_place f u)
-
       -- its choice is refused
       pub family_choice : (f : Fault) → r ≡ Err f → FamilyInto (length s) n t (family_of least n s) (Err (later k f)) t'
       unfolding family_of
@@ -122,9 +119,6 @@ module _ (v t : List ℕ) (o : Opening) (p : o ≡ opening_of SEQUENCE v) where
   blocks_bad f q = value_bad blocks_rows inner 0 v t o p f q
 
   module _ (k e : ℕ) (q : o ≡ Ok (k, e)) (t' : List ℕ) (r : Read ℕ) (h : CountedInto blocks_rows (length (take (e - k) (drop k v))) 0 t (families_of (take (e - k) (drop k v))) r t') where
-    -- a place of its contents is one of the value
-    pub blocks_fits : (f : Fault) → r ≡ Err f → length v < 2 ^ 64 → k + f.place < 2 ^ 64
-    blocks_fits f u = lt_of_le_of_lt (value_place blocks_rows inner 0 v t o p k e q (families_of (take (e - k) (drop k v))) refl t' r h f u)
 
     -- they are refused
     pub blocks_isnt : (f : Fault) → r ≡ Err f → CountedInto blocks_rows (length v) 0 t (read_blocks v) (Err (later k f)) t'

@@ -1,5 +1,5 @@
 -- What the code of `ids` finds at each of its ends, in the terms of the definitions: for AS numbers and routing domain identifiers alike, over the number of the space. Theorems. Assumes nothing.
---     range_made, none_made     the rows.       integer_..      `any_integer_at`.       pair_..     `brief_pair`
+--     integer_..      `any_integer_at`.       pair_..     `brief_pair`
 --     number_..    `brief_number`, and a number's row.     brief_..    what `brief_number` says.     span_..     a range's row
 use mathlib.Core.Path.{◌≡◌, refl, sym, ap, ◌∙◌}
 use mathlib.Core.List.{List}
@@ -34,14 +34,6 @@ use Rattle.der.specs.Opening.{Opening}
 use Rattle.std.specs.Prelude.{Result, Ok, Err}
 use Rattle.std.specs.Prelude.{Option, Some, None}
 use Rattle.values.specs.Faults.{Taken}
-
--- the row of a range
-pub range_made : {r : Row} (a x y : ℕ) → x < y → r ≡ in_halves (listed_row a (x, y)) → Some r ≡ range_seen a x y
-range_made a x y h p = rw (lt-ltb x y h) (ap Some p)
-
--- none where min is not below max
-pub none_made : (a x y : ℕ) → y ≤ x → None ≡ range_seen a x y
-none_made a x y h = rw (le-ltb x y h)
 
 -- a row is not none
 no_row : {r : Row} → Some r ≡ None → ⊥
@@ -111,9 +103,6 @@ module _ (s : List ℕ) (x k : ℕ) (p : BriefNumber s (Some (x, k))) where
 -- two of them, the second right after the first
 module _ (s : List ℕ) (x k : ℕ) (p : BriefNumber (take (length s - 2) (drop 2 s)) (Some (x, k))) (y j : ℕ)
     (q : BriefNumber (take (length (take (length s - 2) (drop 2 s)) - k) (drop k (take (length s - 2) (drop 2 s)))) (Some (y, j))) where
-  -- both are few octets
-  pub pair_few : k + j < 2 ^ 64
-  pair_few = omega (arith, brief_few _ x k p, brief_few _ y j q)
 
   -- in a SEQUENCE
   pair_whole : 2 ≤ length s → get_or s 0 0 ≡ SEQUENCE → k + j ≡ get_or s 1 0 → Took (pair_at s) s (x, y) (2 + k + j)

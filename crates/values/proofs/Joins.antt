@@ -1,6 +1,5 @@
 -- Readers made of smaller ones, by what the code says of each part. Theorems. Assumes nothing.
---     Refused, Took, Isnt      what a reader answers: of the part that s begins with, and of contents. refused, took, isnt_so      the same as a contract has it
---     clauses     two facts, as the two clauses of a contract
+--     Refused, Took, Isnt      what a reader answers: of the part that s begins with, and of contents. refused, took      the same as a contract has it
 --     no_tag, tag_order, tag_inside, tag_place     no octets have a tag; where the contents of an element lie
 --     tag_refused, tag_isnt, tag_took      an element by its tag, at each end of its reader
 --     join_first, join_second, join_over, join_both    one part, then another, then nothing
@@ -39,18 +38,11 @@ pub record Isnt {X : Type 0} (o : Contents X Fault) (n : ℕ) (f : Fault) : Type
   pub inside : f.place ≤ n
 
 -- as a contract has them
--- two facts as the clauses of a contract
-pub clauses : {A B C : Type 0} → (A → B → C) → A × B → C
-clauses said p = said p.0 p.1
-
 pub refused : {X : Type 0} {o : Part X Fault} {n : ℕ} {f : Fault} → Refused o n f → (nopart f ≡ o) × (f.place ≤ n)
 refused r = (r.told, r.inside)
 
 pub took : {X : Type 0} {o : Part X Fault} {s : List ℕ} {x : X} {k : ℕ} → Took o s x k → (part x (drop k s) ≡ o) × ((0 < k) × (k ≤ length s))
 took t = (t.told, (t.some, t.inside))
-
-pub isnt_so : {X : Type 0} {o : Contents X Fault} {n : ℕ} {f : Fault} → Isnt o n f → (isnt f ≡ o) × (f.place ≤ n)
-isnt_so r = (r.told, r.inside)
 
 -- nothing begins with no tag
 pub no_tag : (s : List ℕ) (t : ℕ) → 0 < t → length s ≤ 0 → get_or s 0 0 ≡ t → ⊥

@@ -1,8 +1,7 @@
 -- What the functions of `elements` answer and leave of the table, and the loop of `read`. Assumes nothing.
---     an_address, an_as, an_rdi       `element`
+--     an_as       `element`
 --     least_first, least_later        `early`
 --     Reading, reading_start, reading_bad, reading_early, reading_full, reading_turn, reading_end      the invariant of `read`, and its places
---     found_end, fault_fits, turn_less       the numbers in its loop
 use mathlib.Core.Path.{◌≡◌, refl, sym, ap, ◌∙◌}
 use mathlib.Core.List.{List, [], ◌∷◌, ◌++◌}
 use mathlib.Core.Bool.{Bool, true, false, not}
@@ -64,17 +63,10 @@ Said a s r = (found_seen s r ≡ element_at a s) × FoundIn (space_number a) (le
 
 -- by what is said of it in each kind of list
 module _ (a : Space) (s : List ℕ) (r : Taken code.Row) where
-  -- an address
-  pub an_address : (n : ℕ) → a ≡ space.Addresses n → found_seen s r ≡ address_at (bits (width_of n)) s → FoundIn n (length s) r → Said a s r
-  an_address n e p q = rw e (p, q)
 
   -- an AS number
   pub an_as : a ≡ space.AsNumbers → found_seen s r ≡ id_at s → FoundIn as_numbers (length s) r → Said a s r
   an_as e p q = rw e (p, q)
-
-  -- a routing domain identifier
-  pub an_rdi : a ≡ space.RoutingDomains → found_seen s r ≡ id_at s → FoundIn routing_domains (length s) r → Said a s r
-  an_rdi e p q = rw e (p, q)
 
 -- ONE STEP
 
@@ -110,10 +102,6 @@ module _ (a m : ℕ) (r : Taken code.Row) (h : FoundIn a m r) where
   -- the row and its end
   found_row : (row : code.Row) (k : ℕ) → r ≡ Ok (row, k) → (row.space ≡ a) × (row.inherit ≡ 0) × Reached m k
   found_row row k p = rw p at h
-
-  -- the end alone
-  pub found_end : (row : code.Row) (k : ℕ) → r ≡ Ok (row, k) → k ≤ m
-  found_end row k p = (found_row row k p).2.1
 
 -- the row in whole numbers
 found_seen_lem : (a m : ℕ) (r : Taken code.Row) (row : code.Row) (k : ℕ) → FoundIn a m r → r ≡ Ok (row, k) → seen row ≡ listed_row a (whole row.low, whole row.high)
@@ -176,9 +164,6 @@ module _ {a : Space} {s : List ℕ} {count : ℕ} {t₀ t rest : List ℕ} {n : 
   refused f h e l = counted_not (listed_rows (space_number a)) (length s) count t₀ t (elements_of a count s) (Err f) f (held_exit v.held f h e) refl l v.stands
 
   module _ (r : Taken code.Row) (h : 0 < length rest) (e : found_seen rest r ≡ element_at a rest) (i : FoundIn (space_number a) (length rest) r) where
-    -- the place of its refusal is a number of the code
-    pub fault_fits : (f : Fault) → r ≡ Err f → length s < 2 ^ 64 → length s - length rest + f.place < 2 ^ 64
-    fault_fits f p l = omega (arith, v.inside, found_fault (space_number a) (length rest) r i f p)
 
     -- at an element
     pub reading_bad : (f : Fault) → r ≡ Err f → Promised a s count t₀ (Err (later (length s - length rest) f)) t
@@ -222,7 +207,3 @@ module _ {a : Space} {s : List ℕ} {count : ℕ} {t₀ t rest : List ℕ} {n : 
         reading_turn u o =
             let (l, y, z) = pushed_is n t (seen row) w n' t' j u o in
             rw y (turned t' q l z)
-
--- a turn leaves less
-pub turn_less : (a : ℕ) (r : Taken code.Row) (rest : List ℕ) (row : code.Row) (k : ℕ) → FoundIn a (length rest) r → r ≡ Ok (row, k) → 0 < length rest → length (take (length rest - k) (drop k rest)) < length rest
-turn_less a r rest row k h p l = rw (rest_of k rest) (shorter k rest l (found_row a (length rest) r h row k p).2.0)

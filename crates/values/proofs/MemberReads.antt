@@ -2,7 +2,7 @@
 --     member_bad, member_isnt, member_over, member_all      `member`
 --     last_isnt, last_over, last_all      `last`.      first_isnt, first_alone, first_last, first_both       `first`
 --     members_first, members_last     `members`.     ids_bad, ids_none, ids_isnt, ids_over, ids_all     `read`
---     member_fits, first_fits, ids_fits      their numbers
+--     first_fits      its number
 use mathlib.Core.Path.{◌≡◌, refl, sym, ap, ◌∙◌}
 use mathlib.Core.List.{List, [], ◌∷◌}
 use Prim.Native.Nat.{ℕ, ◌+◌, ◌-◌, ◌^◌, ◌≤◌, ◌<◌}
@@ -51,9 +51,6 @@ module _ (tag : ℕ) (a : Space) (n : ℕ) (s t : List ℕ) (o : Opening) (p : o
     -- a place of that is one of the member
     member_place : (f : Fault) → r ≡ Err f → k + f.place ≤ length s
     member_place f u = tag_place tag s p k e q f.place (chosen_bad (space_number a) inner n t t' r (choice_at a n inner) h f u).inside
-
-    pub member_fits : (f : Fault) → r ≡ Err f → length s < 2 ^ 64 → k + f.place < 2 ^ 64
-    member_fits f u = lt_of_le_of_lt (member_place f u)
 
     -- by what that is
     member_no : (f : Fault) → isnt f ≡ member_of a n inner → k + f.place ≤ length s → nopart (later k f) ≡ member_at tag a n s
@@ -236,10 +233,6 @@ module _ (n : ℕ) (v t : List ℕ) (o : Opening) (p : o ≡ opening_of SEQUENCE
       some =
           let i = opens SEQUENCE v k e p q in
           rw (ne_eqb (length contents) 0 (λ y. z (omega (arith, contents_size, i.order))))
-
-      -- a place of them is one of the value
-      pub ids_fits : (f : Fault) → r ≡ Err f → length v < 2 ^ 64 → k + f.place < 2 ^ 64
-      ids_fits f u = lt_of_le_of_lt (value_place identifiers_rows (some_members n) n v t o p k e q (members_of n contents) some t' r h f u)
 
       -- they are refused
       pub ids_isnt : (f : Fault) → r ≡ Err f → CountedInto identifiers_rows (length v) n t (read_identifiers n v) (Err (later k f)) t'

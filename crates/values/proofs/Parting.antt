@@ -41,9 +41,6 @@ all_but refusal.NotATable a b c = refl
 all_but refusal.OutputShort a b c = refl
 
 module _ (ip ids t t' : List ℕ) (r : Reading) (e : ◌≡◌ {A = Left} (r, t') (read_both ip ids t)) where
-  -- the table is the reading's
-  pub left_table : t' ≡ (read_both ip ids t).1
-  left_table = ap (λ (l : Left). l.1) e
 
   reply : (read_both ip ids t).0 ≡ r
   reply = sym (ap (λ (l : Left). l.0) e)
@@ -90,8 +87,3 @@ module _ (ip ids t t' : List ℕ) (r : Reading) (e : ◌≡◌ {A = Left} (r, t'
 
 -- the place
 module _ (m n : ℕ) (r : Reading) (f : refused.Refused) (i : BothIn m n r) (d : r ≡ Err f) where
-  pub ip_place : f.extension ≡ ip_extension → f.place ≤ m
-  ip_place g = (rw d at i).0 g
-
-  pub as_place : (f.extension ≡ ip_extension → ⊥) → f.place ≤ n
-  as_place g = (rw d at i).1 g

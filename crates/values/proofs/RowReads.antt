@@ -1,6 +1,6 @@
 -- The rows that the readers of elements make: addresses, AS numbers and routing domain identifiers alike. Theorems. Assumes nothing.
 --     row_made     a row by its two ends
---     Rowed, rowed, row_took       an element that was taken, and its row
+--     Rowed, row_took       an element that was taken, and its row
 use mathlib.Core.Path.{◌≡◌, refl}
 use mathlib.Core.List.{List}
 use Prim.Native.Nat.{ℕ, ◌≤◌, ◌<◌}
@@ -24,11 +24,6 @@ pub record Rowed (o : Part (ℕ × ℕ) Fault) (a : ℕ) (s : List ℕ) (row : R
   pub ends : Took o s (whole row.low, whole row.high) k
   pub own : row.space ≡ a
   pub lists : row.inherit ≡ 0
-
--- as a contract has it
-pub rowed : {o : Part (ℕ × ℕ) Fault} {a : ℕ} {s : List ℕ} {row : Row} {k : ℕ} → Rowed o a s row k
-    → (part (whole row.low, whole row.high) (drop k s) ≡ o) × ((row.space ≡ a) × (row.inherit ≡ 0) × ((0 < k) × (k ≤ length s)))
-rowed r = let t = r.ends in (t.told, (r.own, r.lists, (t.some, t.inside)))
 
 -- by its two ends
 pub row_took : {row : Row} (o : Part (ℕ × ℕ) Fault) (a : ℕ) (s : List ℕ) (x y k : ℕ) → row ≡ in_halves (listed_row a (x, y)) → Took o s (x, y) k → Rowed o a s row k

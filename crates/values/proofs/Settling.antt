@@ -83,11 +83,6 @@ module _ (extension : ℕ) (v t : List ℕ) (x : Result (Unit {0}) refused.Refus
 
 -- the AS value after the IP value
 module _ (v t : List ℕ) (n : ℕ) where
-  pub after_absent : length v ≡ 0 → ◌≡◌ {A = Left} (Ok n, t) (on_as v t (Ok n))
-  after_absent h = rw (eq-eqb (length v) 0 h)
-
-  pub after_step : (x : Reading) (t' : List ℕ) → (length v ≡ 0 → ⊥) → ◌≡◌ {A = Left} (x, t') (step_as v n t) → ◌≡◌ {A = Left} (x, t') (on_as v t (Ok n))
-  after_step x t' h i = rw (ne_eqb (length v) 0 h) i
 
 -- both values
 module _ (ip ids t : List ℕ) where
