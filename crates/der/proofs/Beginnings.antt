@@ -7,12 +7,12 @@ use mathlib.Core.List.{List, [], ◌∷◌, ◌++◌, append_assoc}
 use mathlib.Core.Bool.{Bool, true, false}
 use Prim.Native.Nat.{ℕ, suc, ◌+◌, ◌-◌, ◌*◌, ◌/◌, ◌%◌, ◌^◌, ◌≤◌, ◌<◌}
 use native.Mathlib.Omega.{arith}
-use native.Mathlib.Nat.{zero-mod, mod-eq_of_lt}
+use native.Mathlib.Nat.{mod-eq_of_lt}
 use lib.Dec.{ltb, eqb}
 use lib.ListN.{length, take, drop, get_or, replicate, replicate-append-replicate}
 use lib.Pow.{pow_pos, shl_exact, shl_lt}
 use lib.Seq.{take_all}
-use borrow.Author.Tests.{eq-eqb, le-ltb, ltb-false, eqb-true, eqb-false}
+use borrow.Author.Tests.{le-ltb, ltb-false, eqb-true, eqb-false}
 use Rattle.number.specs.Tests.{pick}
 use Rattle.number.specs.Halves.{bits}
 use Rattle.number.specs.Octets.{Octets, value}

@@ -81,6 +81,24 @@ went (is x) next b e = record { given = x; so = refl; on = e }
 went (isnt f) next b e = let z : ◌≡◌ {A = ℕ} 0 1 = cc in absurd (omega arith)
 
 module _ (a : Above) (h : List Row × ℕ) where
+  -- 15 looks at no more pairs than both have rows
+  hold_small : (rows : List Row) → length rows ≤ max_rows → hold_step a rows ≡ is h → Small a h
+  unfolding hold_step
+  hold_small rows few e = go (eqb a.certificates 0) (walk rows a.rows).result (walk rows a.rows).pairs (pairs_few rows a.rows) e
+    where
+      go : (t : Bool) (w : Result) (k : ℕ) → k ≤ length rows + length a.rows → pick t (is (rows, 0)) (walk_step a.certificates rows w k) ≡ is h → Small a h
+      go true w k l q = let p : h ≡ (rows, 0) = cc in rw p (record { rows = few; pairs = omega arith })
+      go false covered k l q = let p : h ≡ (rows, k) = cc in rw p (record { rows = few; pairs = omega arith })
+      go false (missing s n) k l q = let z : ◌≡◌ {A = ℕ} 0 1 = cc in absurd (omega arith)
+
+  -- 11 lets no more rows through
+  count_small : (rows : List Row) → after_inheritance a rows ≡ is h → Small a h
+  unfolding after_inheritance
+  count_small rows e = go (ltb max_rows (length rows)) refl e
+    where
+      go : (t : Bool) → ltb max_rows (length rows) ≡ t → onward (pick t (isnt (fault_at refusal.RowCount a.certificates 0 0 0)) (is rows)) (λ own. hold_step a own) ≡ is h → Small a h
+      go true p q = let z : ◌≡◌ {A = ℕ} 0 1 = cc in absurd (omega arith)
+      go false p q = hold_small rows (ltb-false max_rows (length rows) p) q
 
   -- so the steps together
   pub certificate_small : (ip ids : List ℕ) → certificate a ip ids ≡ is h → Small a h

@@ -31,7 +31,7 @@ use Rattle.path.specs.Certificate.{Step, onward, blamed, value_step, ip_step, as
 use Rattle.path.specs.declared.certificates.Above as code
 use Rattle.path.proofs.Checking.{read_again}
 use Rattle.values.specs.Readings.{Reading}
-use Rattle.std.specs.Prelude.{Result, Ok, Err}
+use Rattle.std.specs.Prelude.{Ok, Err}
 
 -- ONE VALUE
 

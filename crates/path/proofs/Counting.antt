@@ -4,7 +4,7 @@ use mathlib.Core.List.{List, [], ◌∷◌, ◌++◌}
 use mathlib.Core.Bool.{Bool, true, false}
 use Prim.Native.Nat.{ℕ, min, ◌+◌, ◌-◌, ◌*◌, ◌^◌, ◌≤◌, ◌<◌}
 use native.Mathlib.Omega.{arith}
-use lib.ListN.{length, take, drop, length-append, get_or-append}
+use lib.ListN.{length, drop, length-append, get_or-append}
 use lib.Seq.{drop-append_seam}
 use lib.Dec.{eqb}
 use borrow.Author.Tests.{eq-eqb, ne_eqb}
@@ -14,7 +14,7 @@ use Rattle.table.specs.Sizes.{row_numbers, max_rows}
 use Rattle.table.specs.Rows.{Row, seen, in_halves, room, row_at, rows_of, rows_all}
 use Rattle.table.specs.declared.rows.Row as code
 use Rattle.table.proofs.Columns.{front_alike, row_at_lem}
-use Rattle.table.proofs.laws.Rows.{length_rows_of, rows_split, rows_cut, rows_first, rows_none}
+use Rattle.table.proofs.laws.Rows.{length_rows_of, rows_split, rows_first, rows_none}
 use Rattle.path.specs.Inherit.{in_space, inherits, resolved, all, lacks, or_lacks, lacking, replaced, count_of}
 use Rattle.path.proofs.Parts.{rows_got, space_yes, space_no, lacking-append, lacking_last, resolved_last, few_replaced}
 use Rattle.path.specs.declared.inherits.Uninherited.TheVariants as uninherited

@@ -17,7 +17,7 @@ use Rattle.std.specs.Prelude.{Some, None, Option, Ok, Err}
 use Rattle.number.proofs.Picks.{rest_of}
 use Rattle.table.specs.Sizes.{row_numbers, max_rows, table_numbers}
 use Rattle.table.specs.Rows.{Row, rows_of, rows_in, with_rows, cleared}
-use Rattle.table.proofs.laws.Rows.{length_rows_of, length-with_rows}
+use Rattle.table.proofs.laws.Rows.{length_rows_of}
 use Rattle.der.specs.Parts.{is, isnt}
 use Rattle.values.specs.declared.readings.Refused.{Refused}
 use Rattle.path.specs.Bundle.{length_of, length_in, end_of, on_after, is_values, value_in, after_value, certificates_in}

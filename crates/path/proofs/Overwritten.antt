@@ -49,6 +49,26 @@ module _ (n old : ℕ) (t : List ℕ) where
         get_or-append (take (row_numbers * n) t) (cleared (row_numbers * (old - n)) (drop (row_numbers * n) t)) 0 k a ∙ get_or-take (row_numbers * n) t k 0 h
 
     module _ (h : row_numbers * n ≤ k) where
+      -- after them come those of the part
+      rest_part : get_or (cleared_rest n old t) k 0 ≡ get_or (cleared (row_numbers * (old - n)) (drop (row_numbers * n) t)) (k - row_numbers * n) 0
+      unfolding cleared_rest
+      rest_part =
+          let q : k ≡ length (take (row_numbers * n) t) + (k - row_numbers * n) = omega (arith, length-take-le (row_numbers * n) t fits) in
+          let part = cleared (row_numbers * (old - n)) (drop (row_numbers * n) t) in
+          ap (λ (i : ℕ). get_or (take (row_numbers * n) t ++ part) i 0) q ∙ get_or-append-add (take (row_numbers * n) t) part (k - row_numbers * n) 0
+
+      -- what is left of the old rows is zero,
+      rest_zero : k < row_numbers * old → get_or (cleared_rest n old t) k 0 ≡ 0
+      rest_zero b = rest_part ∙ cleared_zero (row_numbers * (old - n)) (drop (row_numbers * n) t) (k - row_numbers * n) (omega arith)
+
+      -- and what comes later stays
+      rest_later : row_numbers * old ≤ k → get_or (cleared_rest n old t) k 0 ≡ get_or t k 0
+      rest_later b =
+          let q : row_numbers * n + (k - row_numbers * n) ≡ k = omega arith in
+          rest_part
+          ∙ cleared_later (row_numbers * (old - n)) (drop (row_numbers * n) t) (k - row_numbers * n) (omega arith)
+          ∙ get_or-drop (row_numbers * n) t (k - row_numbers * n) 0
+          ∙ ap (λ (i : ℕ). get_or t i 0) q
 
 -- ROWS OVER ROWS
 

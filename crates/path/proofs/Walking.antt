@@ -87,7 +87,6 @@ module _ {w : Walked} {left held : List ℕ} {pairs : ℕ} (h : Walking w left h
       ap (λ (k : ℕ). record { missing = None; pairs = k }) e ∙ ap (λ (y : Walked). walked_of y) s
 
   module _ (p : row_numbers ≤ length left) where
-
     -- no row of the issuer is left
     pub walk_out : length held < row_numbers → {s : ℕ} {l : Halves} {r : answer.Walked} → s ≡ (row_at left 0).space → l ≡ halves (row_at left 0).low
         → r ≡ record { missing = Some (record { space = s; value = l }); pairs = pairs } → r ≡ walked_of w

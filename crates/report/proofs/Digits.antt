@@ -14,7 +14,7 @@ use native.Mathlib.Omega.{arith}
 use lib.Dec.{eqb}
 use lib.ListN.{length, take, drop, set, length-set, length-drop}
 use lib.Pow.{pow-add, shr-shr, high}
-use lib.Seq.{take_all, drop-cons, drop-length, drop-set-lt, get_or-set_same}
+use lib.Seq.{take_all, drop-cons, drop-set-lt, get_or-set_same}
 use borrow.Author.Tests.{lt-ltb, le-ltb, eq-eqb, ne_eqb}
 use Rattle.number.specs.Tests.{pick}
 use Rattle.report.specs.Text.{glyph, decimal_from, decimal, hex_from, hexadecimal}

@@ -14,7 +14,7 @@ use Rattle.table.specs.declared.rows.Row as code
 use Rattle.table.proofs.Columns.{row_code}
 use Rattle.table.proofs.laws.Rows.{length_rows_of, rows_split, rows_read}
 use Rattle.values.specs.declared.readings.Refused.{Refused}
-use Rattle.der.proofs.laws.Writing.{length-written, written_none}
+use Rattle.der.proofs.laws.Writing.{written_none}
 use Rattle.report.specs.Text.{decimal, hexadecimal, field, hex_field, row_line, row_lines, ok_text, no_text}
 use Rattle.report.specs.Reports.{put, room_for}
 use Rattle.report.proofs.Digits.{length-decimal, length_hex}

@@ -1,8 +1,8 @@
 -- What the code of `brief_addresses` takes as a prefix or a range, in the terms of the definitions. Theorems. Assumes nothing.
 --     brief_..     what `brief_bits` says.     prefix_span     `brief_prefix`.     both_..     `brief_range`
-use mathlib.Core.Path.{◌≡◌, refl, sym, ap, ◌∙◌}
+use mathlib.Core.Path.{◌≡◌, sym, ap, ◌∙◌}
 use mathlib.Core.List.{List, ◌++◌}
-use Prim.Native.Nat.{ℕ, ◌+◌, ◌-◌, ◌≤◌, ◌<◌, ◌^◌}
+use Prim.Native.Nat.{ℕ, ◌+◌, ◌-◌, ◌≤◌}
 use native.Mathlib.Omega.{arith}
 use lib.ListN.{length, get_or, take, drop, take-append-drop}
 use lib.Seq.{length-take-le}
@@ -15,7 +15,6 @@ use Rattle.number.proofs.Picks.{rest_of}
 use Rattle.number.proofs.Sixteen.{width_octets}
 use Rattle.number.proofs.TwoHalves.{whole_halves}
 use Rattle.number.proofs.laws.Address.{address_is}
-use Rattle.table.specs.Spaces.{width_of}
 use Rattle.der.specs.Tags.{SEQUENCE}
 use Rattle.der.specs.Parts.{part}
 use Rattle.der.proofs.laws.Bits.{Begins}
@@ -24,9 +23,7 @@ use Rattle.values.specs.Addresses.{address_at}
 use Rattle.values.specs.Encode.{form_octets}
 use Rattle.values.specs.Briefs.{Starts, Within, placed_bits, Leading, filled_bits, BriefBits, IsRange, BriefSpan}
 use Rattle.values.specs.declared.brief_addresses.Brief.{Brief}
-use Rattle.values.specs.declared.brief_addresses.Span.{Span}
 use Rattle.std.specs.Prelude.{Some}
-use Rattle.values.proofs.RowReads.{Rowed}
 use Rattle.values.proofs.BriefReads.{both_taken}
 use Rattle.values.proofs.BriefSpans.{last_within, last_filled, range_span}
 use Rattle.values.proofs.laws.Forms.{Parts}
@@ -88,7 +85,6 @@ module _ (b : Brief) (k : ℕ) (width : Width) (s : List ℕ) (p : BriefBits (bi
 -- two brief BIT STRINGs in a SEQUENCE
 module _ (b : Brief) (k : ℕ) (d : Brief) (j : ℕ) (width : Width) (s : List ℕ) (p : BriefBits (bits width) (take (length s - 2) (drop 2 s)) (Some (b, k)))
     (q : BriefBits (bits width) (take (length (take (length s - 2) (drop 2 s)) - k) (drop k (take (length s - 2) (drop 2 s)))) (Some (d, j))) where
-
   -- they are read as a range
   pub both_span : {v last : ℕ} {a : Address} {low high : Halves} → a ≡ address_of width (placed_bits (bits width) b.bits) → low ≡ halves (number_of a) → last ≡ filled_bits d.count d.bits
       → high ≡ halves (placed_bits (bits width) (last + 1) - 1) → 2 ≤ length s → get_or s 0 0 ≡ SEQUENCE → v ≡ get_or s 1 0 → k + j ≡ v

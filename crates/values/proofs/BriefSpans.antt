@@ -122,6 +122,14 @@ power w d f s e = go (below (f + 64) w)
 
 -- the addresses of w bits from low to high are d words of 64 bits, and d is no power of two
 module _ (w low high d : ℕ) (s : 0 < d) (e : (high + 1) * 2 ^ 64 ≡ low * 2 ^ 64 + d * 2 ^ w) (u : (k : ℕ) → d ≡ 2 ^ k → ⊥) where
+  -- they are no prefix
+  unlike_prefix : is_prefix w low high ≡ false
+  unfolding is_prefix
+  unlike_prefix =
+      ne_eqb high (low + (2 ^ free w low high - 1)) (λ (p : high ≡ low + (2 ^ free w low high - 1)).
+      let q : d * 2 ^ w ≡ 2 ^ (free w low high + 64) = omega (arith, pow_pos (free w low high), pow-add 2 (free w low high) 64) in
+      let (k, f) = power w d (free w low high) s q in
+      u k f)
 
   -- and not one alone
   unlike_one : low < high

@@ -3,9 +3,8 @@
 --     space_end      its number
 use mathlib.Core.Path.{◌≡◌, refl, ap}
 use mathlib.Core.List.{List}
-use Prim.Native.Nat.{ℕ, ◌+◌, ◌-◌, ◌^◌, ◌≤◌, ◌<◌}
+use Prim.Native.Nat.{ℕ, ◌+◌, ◌-◌, ◌≤◌, ◌<◌}
 use native.Mathlib.Omega.{arith}
-use native.Mathlib.Nat.{lt_of_le_of_lt}
 use lib.ListN.{length, take, drop, length-drop}
 use Rattle.number.specs.declared.refusal.Refusal.{Refusal}
 use Rattle.number.specs.declared.refusal.Refusal.TheVariants as refusal
@@ -23,7 +22,7 @@ use Rattle.values.specs.declared.elements.Space.TheVariants as space
 use Rattle.values.proofs.Filling.{stands_still, family_is, family_not}
 use Rattle.values.proofs.Wholes.{only_bad, only_over, only_all, paired, two_first, two_second, two_both}
 use Rattle.values.proofs.Answers.{Granted, chosen_bad, chosen_rows}
-use Rattle.values.proofs.ValueReads.{value_bad, value_place, value_isnt, value_over, value_all}
+use Rattle.values.proofs.ValueReads.{value_bad, value_isnt, value_over, value_all}
 use Rattle.der.specs.Opening.{Opening}
 use Rattle.std.specs.Prelude.{Ok, Err}
 use Rattle.values.specs.Faults.{Read, Taken}
@@ -119,7 +118,6 @@ module _ (v t : List ℕ) (o : Opening) (p : o ≡ opening_of SEQUENCE v) where
   blocks_bad f q = value_bad blocks_rows inner 0 v t o p f q
 
   module _ (k e : ℕ) (q : o ≡ Ok (k, e)) (t' : List ℕ) (r : Read ℕ) (h : CountedInto blocks_rows (length (take (e - k) (drop k v))) 0 t (families_of (take (e - k) (drop k v))) r t') where
-
     -- they are refused
     pub blocks_isnt : (f : Fault) → r ≡ Err f → CountedInto blocks_rows (length v) 0 t (read_blocks v) (Err (later k f)) t'
     unfolding read_blocks

@@ -8,7 +8,6 @@ use Prim.Native.Nat.{ℕ, ◌+◌, ◌-◌, ◌*◌, ◌/◌, ◌^◌, ◌≤◌
 use native.Mathlib.Omega.{arith}
 use lib.Dec.{ltb}
 use lib.ListN.{length, get_or, take, drop, length-take, length-drop}
-use borrow.Author.Tests.{lt-ltb, le-ltb}
 use Rattle.number.specs.Octets.{Octets, value, octets}
 use Rattle.number.specs.declared.refusal.Refusal.{Refusal}
 use Rattle.number.specs.declared.refusal.Refusal.TheVariants as refusal
@@ -103,7 +102,6 @@ module _ (s : List ℕ) (x k : ℕ) (p : BriefNumber s (Some (x, k))) where
 -- two of them, the second right after the first
 module _ (s : List ℕ) (x k : ℕ) (p : BriefNumber (take (length s - 2) (drop 2 s)) (Some (x, k))) (y j : ℕ)
     (q : BriefNumber (take (length (take (length s - 2) (drop 2 s)) - k) (drop k (take (length s - 2) (drop 2 s)))) (Some (y, j))) where
-
   -- in a SEQUENCE
   pair_whole : 2 ≤ length s → get_or s 0 0 ≡ SEQUENCE → k + j ≡ get_or s 1 0 → Took (pair_at s) s (x, y) (2 + k + j)
   pair_whole h t e =

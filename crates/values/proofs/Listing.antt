@@ -5,17 +5,16 @@
 use mathlib.Core.Path.{◌≡◌, refl, sym, ap, ◌∙◌}
 use mathlib.Core.List.{List, [], ◌∷◌, ◌++◌}
 use mathlib.Core.Bool.{Bool, true, false, not}
-use Prim.Native.Nat.{ℕ, ◌+◌, ◌-◌, ◌≤◌, ◌<◌, ◌^◌}
+use Prim.Native.Nat.{ℕ, ◌+◌, ◌-◌, ◌≤◌, ◌<◌}
 use native.Mathlib.Omega.{arith}
 use lib.ListN.{length, take, drop, length-drop, length-append}
 use lib.Dec.{ltb}
 use borrow.Author.Tests.{ltb-true, ltb-false, le-ltb, lt-ltb, le-leb, lt-leb, eq-eqb, ne_eqb}
-use Rattle.number.specs.Halves.{bits, whole}
+use Rattle.number.specs.Halves.{whole}
 use Rattle.number.specs.declared.halves.Halves.{Halves}
 use Rattle.number.specs.declared.refusal.Refusal.TheVariants as refusal
 use Rattle.number.proofs.Picks.{rest_of}
 use Rattle.table.specs.Sizes.{max_rows}
-use Rattle.table.specs.Spaces.{width_of}
 use Rattle.table.specs.Rows.{Row, seen, with_row, with_rows}
 use Rattle.table.specs.declared.rows.Row as code
 use Rattle.table.proofs.laws.Rows.{with_rows_snoc}
@@ -23,9 +22,8 @@ use Rattle.der.specs.Walk.{got, no}
 use Rattle.der.specs.Parts.{admitted}
 use Rattle.der.proofs.Held.{Held, held_start, held_end, held_exit, held_turn}
 use Rattle.values.specs.Faults.{Fault, at, later, Read, Taken}
-use Rattle.values.specs.Limits.{as_numbers, routing_domains}
+use Rattle.values.specs.Limits.{as_numbers}
 use Rattle.values.specs.Spaces.{space_number}
-use Rattle.values.specs.Addresses.{address_at}
 use Rattle.values.specs.Ids.{id_at}
 use Rattle.values.specs.Elements.{element_at, Place, least_at, admit_row, element_step, elements_of}
 use Rattle.values.specs.Choices.{listed_row, listed_rows}
@@ -63,7 +61,6 @@ Said a s r = (found_seen s r ≡ element_at a s) × FoundIn (space_number a) (le
 
 -- by what is said of it in each kind of list
 module _ (a : Space) (s : List ℕ) (r : Taken code.Row) where
-
   -- an AS number
   pub an_as : a ≡ space.AsNumbers → found_seen s r ≡ id_at s → FoundIn as_numbers (length s) r → Said a s r
   an_as e p q = rw e (p, q)
@@ -164,7 +161,6 @@ module _ {a : Space} {s : List ℕ} {count : ℕ} {t₀ t rest : List ℕ} {n : 
   refused f h e l = counted_not (listed_rows (space_number a)) (length s) count t₀ t (elements_of a count s) (Err f) f (held_exit v.held f h e) refl l v.stands
 
   module _ (r : Taken code.Row) (h : 0 < length rest) (e : found_seen rest r ≡ element_at a rest) (i : FoundIn (space_number a) (length rest) r) where
-
     -- at an element
     pub reading_bad : (f : Fault) → r ≡ Err f → Promised a s count t₀ (Err (later (length s - length rest) f)) t
     reading_bad f p = refused (later (length s - length rest) f) h (step_bad a _ rest r e f p) (omega (arith, v.inside, found_fault (space_number a) (length rest) r i f p))

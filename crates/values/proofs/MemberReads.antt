@@ -29,7 +29,7 @@ use Rattle.values.specs.declared.elements.Space.TheVariants as space
 use Rattle.values.proofs.Joins.{tag_refused, tag_isnt, tag_took, tag_place, tag_inside}
 use Rattle.values.proofs.Filling.{stands_still, stands_on, counted_is, counted_not, chosen_is, chosen_not}
 use Rattle.values.proofs.Wholes.{before, only_bad, only_over, only_all}
-use Rattle.values.proofs.ValueReads.{value_bad, value_none, value_place, value_isnt, value_over, value_all}
+use Rattle.values.proofs.ValueReads.{value_bad, value_none, value_isnt, value_over, value_all}
 use Rattle.values.proofs.Answers.{rows_on, count_on, chosen_bad, chosen_rows, counted_bad, counted_rows}
 use Rattle.der.specs.Opening.{Opening}
 use Rattle.std.specs.Prelude.{Ok, Err}

@@ -2,14 +2,13 @@
 use mathlib.Core.Path.{◌≡◌, refl, sym, ap, ◌∙◌}
 use mathlib.Core.List.{List, []}
 use mathlib.Core.Bool.{Bool, true, false}
-use Prim.Native.Nat.{ℕ, ◌+◌, ◌-◌, ◌≤◌}
+use Prim.Native.Nat.{ℕ, ◌+◌, ◌-◌}
 use lib.ListN.{length, take, drop}
 use borrow.Author.Tests.{eq-eqb, ne_eqb}
 use Rattle.number.proofs.Picks.{rest_of}
 use Rattle.number.specs.declared.refusal.Refusal.{Refusal}
 use Rattle.number.specs.declared.refusal.Refusal.TheVariants as refusal
 use Rattle.values.specs.Limits.{ip_extension}
-use Rattle.values.specs.Inside.{BothIn}
 use Rattle.values.specs.Readings.{Left, read_both}
 use Rattle.values.specs.Parted.{has_octets, fault_octets, fault_pointer}
 use Rattle.values.specs.declared.readings.Refused as refused
@@ -41,7 +40,6 @@ all_but refusal.NotATable a b c = refl
 all_but refusal.OutputShort a b c = refl
 
 module _ (ip ids t t' : List ℕ) (r : Reading) (e : ◌≡◌ {A = Left} (r, t') (read_both ip ids t)) where
-
   reply : (read_both ip ids t).0 ≡ r
   reply = sym (ap (λ (l : Left). l.0) e)
 
@@ -84,6 +82,3 @@ module _ (ip ids t t' : List ℕ) (r : Reading) (e : ◌≡◌ {A = Left} (r, t'
       pub as_pointer : (p q : ℕ × ℕ) → ◌≡◌ {A = ℕ × ℕ} (q.0, f.place + q.1) (fault_pointer p q ip ids t)
       unfolding fault_pointer
       as_pointer p q = rw (reply, d, ← h, k, ne_eqb f.extension ip_extension g)
-
--- the place
-module _ (m n : ℕ) (r : Reading) (f : refused.Refused) (i : BothIn m n r) (d : r ≡ Err f) where

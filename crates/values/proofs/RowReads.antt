@@ -3,14 +3,13 @@
 --     Rowed, row_took       an element that was taken, and its row
 use mathlib.Core.Path.{◌≡◌, refl}
 use mathlib.Core.List.{List}
-use Prim.Native.Nat.{ℕ, ◌≤◌, ◌<◌}
-use lib.ListN.{length, drop}
+use Prim.Native.Nat.{ℕ}
 use Rattle.number.specs.Halves.{whole, halves}
 use Rattle.number.specs.declared.halves.Halves.{Halves}
 use Rattle.number.proofs.TwoHalves.{whole_halves}
 use Rattle.table.specs.Rows.{in_halves}
 use Rattle.table.specs.declared.rows.Row.{Row}
-use Rattle.der.specs.Parts.{Part, part}
+use Rattle.der.specs.Parts.{Part}
 use Rattle.values.specs.Faults.{Fault}
 use Rattle.values.specs.Choices.{listed_row}
 use Rattle.values.proofs.Joins.{Took}

@@ -1,5 +1,5 @@
 -- What the readers answer and leave, by what was counted. Theorems. Assumes nothing.
---     tests_..    the tests before a value is read;   step_..   of a step;   alone_..   of a reader alone;   after_.., both_..   of both values
+--     tests_..    the tests before a value is read;   step_..   of a step;   alone_..   of a reader alone;   both_..   of both values
 use mathlib.Core.Path.{◌≡◌, refl, sym, ap, ◌∙◌}
 use mathlib.Core.List.{List}
 use mathlib.Core.Bool.{Bool, true, false}
@@ -17,7 +17,7 @@ use Rattle.values.specs.Faults.{Fault, at, Read}
 use Rattle.values.specs.Limits.{max_octets}
 use Rattle.values.specs.Tables.{tabled}
 use Rattle.values.specs.Into.{Stands, CountedInto}
-use Rattle.values.specs.Readings.{naming, Admission, admitted, admitted_alone, Left, refused_with, refused_at, answered, settled, step_of, step_ip, step_as, alone, on_as, step_both, read_both}
+use Rattle.values.specs.Readings.{naming, Admission, admitted, admitted_alone, Left, refused_with, refused_at, answered, settled, step_of, step_ip, alone, on_as, step_both, read_both}
 use Rattle.values.specs.declared.readings.Refused as refused
 use Rattle.std.specs.Prelude.{Result, Ok, Err}
 use Rattle.values.specs.Readings.{Reading}
@@ -80,9 +80,6 @@ module _ (extension : ℕ) (v t : List ℕ) (x : Result (Unit {0}) refused.Refus
   alone_step step l p q e =
       let (k, s) = tests_passed extension t (cleared table_numbers t) (step (cleared table_numbers t)) x t' (ltb (length t) table_numbers) (eqb (length v) 0) p q in
       e ∙ ap step k ∙ s
-
--- the AS value after the IP value
-module _ (v t : List ℕ) (n : ℕ) where
 
 -- both values
 module _ (ip ids t : List ℕ) where

@@ -71,6 +71,14 @@ fine_rest f = record { tidy = without f.tidy; fitting = rest f.fitting }
     rest : {kind : ℕ} {r : Row} {rs : List Row} → Each (Fitting kind) (r ∷ rs) → Each (Fitting kind) rs
     rest (Each.more p e) = e
 
+-- a row of a table of one kind is of the kind
+row_fine : (kind : ℕ) (r : Row) → (kind ≡ mixed_kind → ⊥) → kind ≤ as_kind → Fitting kind r → Sound r → Own kind r
+row_fine kind r one known f s = record { own = same f.own; lists = λ n. record { order = order s n; fits = width (eqb kind ip_kind) refl } }
+  where
+    same : (kind ≡ mixed_kind) ⊎ (kind ≡ kind_of r.space) → kind_of r.space ≡ kind
+    same (inl e) = absurd (one e)
+    same (inr e) = sym e
+
     order : Sound r → (r.inherit ≡ 1 → ⊥) → r.low ≤ r.high
     order (lists e l) n = l
     order (inherits e l h) n = absurd (n e)
