@@ -40,6 +40,7 @@ fn inherit_at(space: u64, s: &[u8], rows: &mut Rows) -> Read<usize>
 }
 
 // The list that s begins with: "at least one element". Its end.
+#[inline(always)]
 fn list_at(space: Space, s: &[u8], rows: &mut Rows) -> Read<usize>
     ensures same_table { rows.new.table.ghost_name ≡ rows.old.table.ghost_name }
     ensures rows { ChosenOn (space_number space) s.now rows.old (spec.listed_at space rows.old.count s.now) result rows.new }
@@ -55,6 +56,7 @@ fn list_at(space: Space, s: &[u8], rows: &mut Rows) -> Read<usize>
 
 // Reads the NULL or the list that s begins with into the table, after the rows so far.
 // Returns the octets taken, or the refusal and its place in s.
+#[inline(always)]
 pub fn read(space: Space, s: &[u8], rows: &mut Rows) -> Read<usize>
     ensures same_table { rows.new.table.ghost_name ≡ rows.old.table.ghost_name }
     ensures rows { ChosenOn (space_number space) s.now rows.old (spec.choice_at space rows.old.count s.now) result rows.new }

@@ -1,4 +1,5 @@
 // The elements of one list: "an element starts more than 1 after the end of the one before".
+// The functions that lead to the loop over them are inlined (here, in `choices` and in `identifiers`): each kind of list then has a loop of its own, which is faster.
 ghost use Rattle.std.specs.Prelude.{◌≡◌, length, ltb};
 ghost use Rattle.number.specs.Halves.{whole};
 ghost use Rattle.values.specs.Spaces.{space_number};
@@ -38,6 +39,7 @@ impl From<Space> for u64 {
 }
 
 // The element that s begins with.
+#[inline(always)]
 fn element(space: Space, s: &[u8]) -> Taken<Row>
     ensures seen { found_seen s.now result ≡ spec.element_at space s.now }
     ensures inside { FoundIn (space_number space) (length s.now) result }
@@ -58,6 +60,7 @@ fn early(at: usize, last: Halves, low: Halves) -> bool
 
 // Reads the elements of s into the table, after the rows so far.
 // Returns the refusal and its place in s, if there is one.
+#[inline(always)]
 pub fn read(space: Space, s: &[u8], rows: &mut Rows) -> Read<()>
     ensures same_table { rows.new.table.ghost_name ≡ rows.old.table.ghost_name }
     ensures rows { CountedOn (listed_rows (space_number space)) (length s.now) rows.old (spec.elements_of space rows.old.count s.now) result rows.new }

@@ -15,6 +15,7 @@ use der::{heads, readers, tags};
 use number::refusal::Refusal;
 
 // The member that s begins with: it "wraps NULL or a SEQUENCE", and nothing follows in it. Its end.
+#[inline(always)]
 fn member(tag: u8, space: Space, s: &[u8], rows: &mut Rows) -> Read<usize>
     ensures same_table { rows.new.table.ghost_name ≡ rows.old.table.ghost_name }
     ensures rows { ChosenOn (space_number space) s.now rows.old (spec.member_at tag space rows.old.count s.now) result rows.new }
