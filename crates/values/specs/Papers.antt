@@ -81,17 +81,17 @@ abbrev pub space_at_paper : Taken ℕ → List ℕ
 space_at_paper (Ok (space, end)) = 0 ∷ space ∷ end ∷ []
 space_at_paper (Err f) = number_of f.refusal ∷ f.place ∷ []
 
--- a family: its space, and the rows so far
+-- a family: its space, and the rows so far (Into: `family` says the code's answer so)
 abbrev pub family_paper : Read (ℕ × ℕ) → List ℕ
 family_paper (Ok (space, n)) = 0 ∷ space ∷ n ∷ []
 family_paper (Err f) = number_of f.refusal ∷ f.place ∷ []
 
--- "NULL (inherit) or a SEQUENCE of at least one element": the rows so far, and the octets that it took
+-- "NULL (inherit) or a SEQUENCE of at least one element": the rows so far, and the octets that it took (Into: `chosen`)
 abbrev pub chosen_paper : Taken ℕ → List ℕ
 chosen_paper (Ok (n, end)) = 0 ∷ n ∷ end ∷ []
 chosen_paper (Err f) = number_of f.refusal ∷ f.place ∷ []
 
--- a list or a value: the rows so far
+-- a list or a value: the rows so far (Into: `counted`)
 abbrev pub counted_paper : Read ℕ → List ℕ
 counted_paper (Ok n) = 0 ∷ n ∷ []
 counted_paper (Err f) = number_of f.refusal ∷ f.place ∷ []
