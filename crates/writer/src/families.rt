@@ -94,20 +94,12 @@ fn own_size(kind: u64, row: Row) -> usize
     row_size(kind, row)
 }
 
-// How many octets the families of a table have.
-fn size(kind: u64, table: &[u64]) -> usize
-    requires { spec.Table kind table.now }
-    ensures { (result ≡ length (spec.families kind table.now)) × (result ≤ reply.families_most) }
-{
-    let mut list = None;
-    let mut size: usize = 0;
-    for k in (0..table.len() / rows::ROW).rev() {
-        let row = rows::get(table, k);
-        let n = own_size(kind, row);
-        size += closing_size(kind, list, row) + n;
-        list = onward(list, row, n);
-    }
-    size + open_size(kind, list)
+// A table of one kind: it holds, and each of its rows has a space of the kind.
+#[derive(Clone, Copy)]
+struct OneKind<'a> {
+    kind: u64,
+    table: &'a [u64],
+    ghost sound: { spec.Table kind table.now },
 }
 
 // A run of octets that is written from the last to the first: what was written starts at a place in it.
@@ -179,20 +171,52 @@ impl<'a> Backwards<'a> {
     }
 
     // The families of a table.
-    fn families(&mut self, kind: u64, table: &[u64])
-        requires { spec.Table kind table.now × (length (spec.families kind table.now) ≤ self.old.start) }
+    fn families(&mut self, one: OneKind)
+        requires { length (spec.families one.kind one.table.now) ≤ self.old.start }
         ensures same_run { self.new.out.ghost_name ≡ self.old.out.ghost_name }
-        ensures written { spec.Upto self.old.out.now self.old.start (spec.families kind table.now) self.new.start self.new.out.now }
+        ensures written { spec.Upto self.old.out.now self.old.start (spec.families one.entry.kind one.entry.table.now) self.new.start self.new.out.now }
     {
         let mut list = None;
-        for k in (0..table.len() / rows::ROW).rev() {
-            let row = rows::get(table, k); // the next one towards the first
-            self.closing(kind, list, row);
+        for k in (0..one.table.len() / rows::ROW).rev() {
+            let row = rows::get(one.table, k); // the next one towards the first
+            self.closing(one.kind, list, row);
             let end = self.start;
-            self.own(kind, row);
+            self.own(one.kind, row);
             list = onward(list, row, end - self.start);
         }
-        self.close(kind, list);
+        self.close(one.kind, list);
+    }
+}
+
+impl<'a> OneKind<'a> {
+    // How many octets its families have.
+    fn size(self) -> usize
+        ensures { (result ≡ length (spec.families self.entry.kind self.entry.table.now)) × (result ≤ reply.families_most) }
+    {
+        let mut list = None;
+        let mut size: usize = 0;
+        for k in (0..self.table.len() / rows::ROW).rev() {
+            let row = rows::get(self.table, k);
+            let n = own_size(self.kind, row);
+            size += closing_size(self.kind, list, row) + n;
+            list = onward(list, row, n);
+        }
+        size + open_size(self.kind, list)
+    }
+
+    // Writes its value to the start of `out`, if it has room.
+    fn put(self, out: &mut [u8]) -> Writing
+        ensures { (result, out.new) ≡ reply.put (element SEQUENCE (spec.families self.entry.kind self.entry.table.now)) out.old }
+    {
+        let inner = self.size();
+        let all = element_size(inner);
+        if out.len() < all {
+            return refuse(Refusal::OutputShort, 0);
+        }
+        heads::put_head(out, 0, tags::SEQUENCE, inner);
+        let mut run = Backwards { out, start: all };
+        run.families(self);
+        Ok(all)
     }
 }
 
@@ -201,22 +225,6 @@ fn rowless(kind: u64, count: usize) -> bool
     ensures { result ≡ reply.rowless kind count }
 {
     kind == spaces::AS && count == 0
-}
-
-// Writes the value of a table to the start of `out`, if it has room.
-fn put_value(kind: u64, table: &[u64], out: &mut [u8]) -> Writing
-    requires { spec.Table kind table.now }
-    ensures { (result, out.new) ≡ reply.put (element SEQUENCE (spec.families kind table.now)) out.old }
-{
-    let inner = size(kind, table);
-    let all = element_size(inner);
-    if out.len() < all {
-        return refuse(Refusal::OutputShort, 0);
-    }
-    heads::put_head(out, 0, tags::SEQUENCE, inner);
-    let mut run = Backwards { out, start: all };
-    run.families(kind, table);
-    Ok(all)
 }
 
 // Writes the value of a table of the kind, 1 (IP) or 2 (AS), to the start of `out`.
@@ -230,5 +238,5 @@ pub fn write(kind: u64, table: &[u64], out: &mut [u8]) -> Writing
     if rowless(kind, table.len() / rows::ROW) {
         return refuse(Refusal::EmptyList, limits::AS_EXTENSION);
     }
-    put_value(kind, table, out)
+    OneKind { kind, table }.put(out)
 }

@@ -1,8 +1,8 @@
--- `writer::families::size` meets its contract. Assumes nothing.
+-- `writer::families::OneKind::size` meets its contract. Assumes nothing.
 use borrow.Author.Rules.{rules}
 use Rattle.writer.proofs.Counting.{count_start, count_turn, count_end, count_few}
 use Rattle.writer.proofs.Passing.{pass_own}
-use Rattle.writer.proofs.families.size.Goals as goal
+use Rattle.writer.proofs.families.OneKind.size.Goals as goal
 
 pub loop-k-init : goal.loop-k-init
 loop-k-init c = search (count_start, rules)
