@@ -1,6 +1,6 @@
 -- The replies of `write`, in the order of its tests. Assumes nothing.
 --     encode_is      the value of a table is its families in a SEQUENCE
---     reply_..       what each exit of `write` gives.       value_..       those of `put_value`
+--     reply_..       what each exit of `write` gives.       value_..       those of `OneKind::put`
 use mathlib.Core.Path.{◌≡◌, refl, sym, ap, ◌∙◌}
 use mathlib.Core.List.{List, [], ◌∷◌}
 use mathlib.Core.Bool.{Bool, true, false}

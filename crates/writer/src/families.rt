@@ -6,11 +6,10 @@ ghost use Rattle.table.specs.Spaces.{kind_of};
 ghost use Rattle.der.specs.Tags.{SEQUENCE};
 ghost use Rattle.der.specs.Head.{element};
 ghost use Rattle.values.specs.Encode.{row_octets};
-ghost use Rattle.writer.specs.Writer.{Lists};
 ghost use Rattle.writer.specs.Families as spec;
 ghost use Rattle.writer.specs.Writer as reply;
 
-use crate::{Writing, element_size, heads_size, put_heads, put_row, refuse, row_size};
+use crate::{Group, Listed, Writing, element_size, refuse};
 use der::{heads, tags};
 use number::refusal::Refusal;
 use table::rows::Row;
@@ -58,7 +57,14 @@ fn frame_size(kind: u64, space: u64, n: usize) -> usize
     requires { n ≤ reply.list_most }
     ensures { (result ≡ length (spec.frame kind space SEQUENCE n)) × (result ≤ reply.heads_most) }
 {
-    heads_size(kind, space, element_size(n)) + heads::head_size(n)
+    let choice = element_size(n);
+    Group {
+        kind,
+        space,
+        choice,
+    }
+    .heads_size()
+        + heads::head_size(n)
 }
 
 // How many octets the heads of the open list have; 0 where there is none.
@@ -91,101 +97,15 @@ fn own_size(kind: u64, row: Row) -> usize
     if row.inherit == 1 {
         return frame_size(kind, row.space, 0);
     }
-    row_size(kind, row)
+    Listed { kind, row }.size()
 }
 
-// A table of one kind: it holds, and each of its rows has a space of the kind.
+// A table of one kind, IP or AS, that `tables::is_table` accepts.
 #[derive(Clone, Copy)]
 struct OneKind<'a> {
     kind: u64,
     table: &'a [u64],
     ghost sound: { spec.Table kind table.now },
-}
-
-// A run of octets that is written from the last to the first: what was written starts at a place in it.
-// Each method writes a part in front of that, for which it asks room.
-#[derive(Drop)]
-struct Backwards<'a> {
-    out: &'a mut [u8],
-    start: usize,
-    ghost inside: { start ≤ length out.now },
-}
-
-impl<'a> Backwards<'a> {
-    // What stands in a family before the n octets of its choice's contents.
-    fn frame(&mut self, kind: u64, space: u64, tag: u8, n: usize)
-        requires { (kind_of space ≡ kind) × (n ≤ reply.list_most) × (length (spec.frame kind space tag n) ≤ self.old.start) }
-        ensures same_run { self.new.out.ghost_name ≡ self.old.out.ghost_name }
-        ensures written { spec.Upto self.old.out.now self.old.start (spec.frame kind space tag n) self.new.start self.new.out.now }
-    {
-        self.start -= heads::head_size(n);
-        heads::put_head(self.out, self.start, tag, n);
-        let size = element_size(n);
-        self.start -= heads_size(kind, space, size);
-        put_heads(self.out, self.start, kind, space, size);
-    }
-
-    // The heads of the open list.
-    fn close(&mut self, kind: u64, list: Option<Open>)
-        requires { spec.Opened kind list × (length (spec.open_heads kind list) ≤ self.old.start) }
-        ensures same_run { self.new.out.ghost_name ≡ self.old.out.ghost_name }
-        ensures written { spec.Upto self.old.out.now self.old.start (spec.open_heads kind list) self.new.start self.new.out.now }
-    {
-        if let Some(open) = list {
-            self.frame(kind, open.space, tags::SEQUENCE, open.size);
-        }
-    }
-
-    // The heads that stand behind a row.
-    fn closing(&mut self, kind: u64, list: Option<Open>, row: Row)
-        requires { spec.Opened kind list × (length (spec.closing kind list (seen row)) ≤ self.old.start) }
-        ensures same_run { self.new.out.ghost_name ≡ self.old.out.ghost_name }
-        ensures written { spec.Upto self.old.out.now self.old.start (spec.closing kind list (seen row)) self.new.start self.new.out.now }
-    {
-        if !joins(list, row) {
-            self.close(kind, list);
-        }
-    }
-
-    // A row's element.
-    fn listed(&mut self, kind: u64, row: Row)
-        requires { Lists kind (seen row) × (length (row_octets kind (seen row)) ≤ self.old.start) }
-        ensures same_run { self.new.out.ghost_name ≡ self.old.out.ghost_name }
-        ensures written { spec.Upto self.old.out.now self.old.start (row_octets kind (seen row)) self.new.start self.new.out.now }
-    {
-        self.start -= row_size(kind, row);
-        put_row(self.out, self.start, kind, row);
-    }
-
-    // A row's own octets.
-    fn own(&mut self, kind: u64, row: Row)
-        requires { spec.Own kind (seen row) × (length (spec.own kind (seen row)) ≤ self.old.start) }
-        ensures same_run { self.new.out.ghost_name ≡ self.old.out.ghost_name }
-        ensures written { spec.Upto self.old.out.now self.old.start (spec.own kind (seen row)) self.new.start self.new.out.now }
-    {
-        if row.inherit == 1 {
-            self.frame(kind, row.space, tags::NULL, 0);
-        } else {
-            self.listed(kind, row);
-        }
-    }
-
-    // The families of a table.
-    fn families(&mut self, one: OneKind)
-        requires { length (spec.families one.kind one.table.now) ≤ self.old.start }
-        ensures same_run { self.new.out.ghost_name ≡ self.old.out.ghost_name }
-        ensures written { spec.Upto self.old.out.now self.old.start (spec.families one.entry.kind one.entry.table.now) self.new.start self.new.out.now }
-    {
-        let mut list = None;
-        for k in (0..one.table.len() / rows::ROW).rev() {
-            let row = rows::get(one.table, k); // the next one towards the first
-            self.closing(one.kind, list, row);
-            let end = self.start;
-            self.own(one.kind, row);
-            list = onward(list, row, end - self.start);
-        }
-        self.close(one.kind, list);
-    }
 }
 
 impl<'a> OneKind<'a> {
@@ -217,6 +137,97 @@ impl<'a> OneKind<'a> {
         let mut run = Backwards { out, start: all };
         run.families(self);
         Ok(all)
+    }
+}
+
+// A run of octets that is written from the last to the first: what was written starts at a place in it.
+// Each method writes a part in front of that, for which it asks room.
+#[derive(Drop)]
+struct Backwards<'a> {
+    out: &'a mut [u8],
+    start: usize,
+    ghost inside: { start ≤ length out.now },
+}
+
+impl<'a> Backwards<'a> {
+    // What stands in a family before the n octets of its choice's contents.
+    fn frame(&mut self, kind: u64, space: u64, tag: u8, n: usize)
+        requires { (kind_of space ≡ kind) × (n ≤ reply.list_most) × (length (spec.frame kind space tag n) ≤ self.old.start) }
+        ensures same_run { self.new.out.ghost_name ≡ self.old.out.ghost_name }
+        ensures written { spec.Upto self.old.out.now self.old.start (spec.frame kind space tag n) self.new.start self.new.out.now }
+    {
+        self.start -= heads::head_size(n);
+        heads::put_head(self.out, self.start, tag, n);
+        let choice = element_size(n);
+        let group = Group {
+            kind,
+            space,
+            choice,
+        };
+        self.start -= group.heads_size();
+        group.put_heads(self.out, self.start);
+    }
+
+    // The heads of the open list.
+    fn close(&mut self, kind: u64, list: Option<Open>)
+        requires { spec.Opened kind list × (length (spec.open_heads kind list) ≤ self.old.start) }
+        ensures same_run { self.new.out.ghost_name ≡ self.old.out.ghost_name }
+        ensures written { spec.Upto self.old.out.now self.old.start (spec.open_heads kind list) self.new.start self.new.out.now }
+    {
+        if let Some(open) = list {
+            self.frame(kind, open.space, tags::SEQUENCE, open.size);
+        }
+    }
+
+    // The heads that stand behind a row.
+    fn closing(&mut self, kind: u64, list: Option<Open>, row: Row)
+        requires { spec.Opened kind list × (length (spec.closing kind list (seen row)) ≤ self.old.start) }
+        ensures same_run { self.new.out.ghost_name ≡ self.old.out.ghost_name }
+        ensures written { spec.Upto self.old.out.now self.old.start (spec.closing kind list (seen row)) self.new.start self.new.out.now }
+    {
+        if !joins(list, row) {
+            self.close(kind, list);
+        }
+    }
+
+    // The element of a row that lists numbers.
+    fn listed(&mut self, listed: Listed)
+        requires { length (row_octets listed.kind (seen listed.row)) ≤ self.old.start }
+        ensures same_run { self.new.out.ghost_name ≡ self.old.out.ghost_name }
+        ensures written { spec.Upto self.old.out.now self.old.start (row_octets listed.kind (seen listed.row)) self.new.start self.new.out.now }
+    {
+        self.start -= listed.size();
+        listed.put(self.out, self.start);
+    }
+
+    // A row's own octets.
+    fn own(&mut self, kind: u64, row: Row)
+        requires { spec.Own kind (seen row) × (length (spec.own kind (seen row)) ≤ self.old.start) }
+        ensures same_run { self.new.out.ghost_name ≡ self.old.out.ghost_name }
+        ensures written { spec.Upto self.old.out.now self.old.start (spec.own kind (seen row)) self.new.start self.new.out.now }
+    {
+        if row.inherit == 1 {
+            self.frame(kind, row.space, tags::NULL, 0);
+        } else {
+            self.listed(Listed { kind, row });
+        }
+    }
+
+    // The families of a table.
+    fn families(&mut self, one: OneKind)
+        requires { length (spec.families one.kind one.table.now) ≤ self.old.start }
+        ensures same_run { self.new.out.ghost_name ≡ self.old.out.ghost_name }
+        ensures written { spec.Upto self.old.out.now self.old.start (spec.families one.entry.kind one.entry.table.now) self.new.start self.new.out.now }
+    {
+        let mut list = None;
+        for k in (0..one.table.len() / rows::ROW).rev() {
+            let row = rows::get(one.table, k); // the next one towards the first
+            self.closing(one.kind, list, row);
+            let end = self.start;
+            self.own(one.kind, row);
+            list = onward(list, row, end - self.start);
+        }
+        self.close(one.kind, list);
     }
 }
 

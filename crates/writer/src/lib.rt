@@ -233,25 +233,36 @@ impl Ids {
     }
 }
 
-fn row_size(kind: u64, row: Row) -> usize
-    requires { spec.Lists kind (seen row) }
-    ensures { (result ≡ length (row_octets kind (seen row))) × (result ≤ spec.row_most) }
-{
-    if kind == spaces::IP {
-        return Span::of(row).size();
-    }
-    Ids::of(row).size()
+// A row that lists numbers of its space's width, in a table of the kind.
+#[derive(Clone, Copy)]
+struct Listed {
+    kind: u64,
+    row: Row,
+    ghost lists: { spec.Lists kind (seen row) },
 }
 
-fn put_row(out: &mut [u8], at: usize, kind: u64, row: Row)
-    requires { spec.Lists kind (seen row) × (at + length (row_octets kind (seen row)) ≤ length out.old) }
-    ensures { out.new ≡ written out.old at (row_octets kind (seen row)) }
-{
-    if kind == spaces::IP {
-        Span::of(row).put(out, at);
-        return;
+impl Listed {
+    // How many octets its element has.
+    fn size(self) -> usize
+        ensures { (result ≡ length (row_octets self.kind (seen self.row))) × (result ≤ spec.row_most) }
+    {
+        if self.kind == spaces::IP {
+            return Span::of(self.row).size();
+        }
+        Ids::of(self.row).size()
     }
-    Ids::of(row).put(out, at);
+
+    // Writes its element at a place.
+    fn put(self, out: &mut [u8], at: usize)
+        requires { at + length (row_octets self.kind (seen self.row)) ≤ length out.old }
+        ensures { out.new ≡ written out.old at (row_octets self.kind (seen self.row)) }
+    {
+        if self.kind == spaces::IP {
+            Span::of(self.row).put(out, at);
+            return;
+        }
+        Ids::of(self.row).put(out, at);
+    }
 }
 
 // How many octets an addressFamily has: an AFI, and a SAFI or none.
@@ -262,18 +273,6 @@ fn space_size(space: u64) -> usize
         return 2;
     }
     3
-}
-
-// How many octets stand in a family, or in a member, before its choice of so many octets.
-fn heads_size(kind: u64, space: u64, choice: usize) -> usize
-    requires { choice ≤ spec.choice_most }
-    ensures { (result ≡ length (group_heads kind space choice)) × (result ≤ spec.group_most) }
-{
-    if kind == spaces::IP {
-        let first = element_size(space_size(space));
-        return heads::head_size(first + choice) + first;
-    }
-    heads::head_size(choice)
 }
 
 fn octet(x: u64) -> u8
@@ -297,20 +296,42 @@ fn put_space(out: &mut [u8], at: usize, space: u64)
     der::writing::put(out, at + 2, &[0, afi, octet(space % 1024 - 1)]);
 }
 
-// Writes what stands in a family, or in a member, before its choice of so many octets.
-fn put_heads(out: &mut [u8], at: usize, kind: u64, space: u64, choice: usize)
-    requires { (kind_of space ≡ kind) × (choice ≤ spec.choice_most) × (at + length (group_heads kind space choice) ≤ length out.old) }
-    ensures { out.new ≡ written out.old at (group_heads kind space choice) }
-{
-    if kind == spaces::IP {
-        let all = element_size(space_size(space)) + choice;
-        heads::put_head(out, at, tags::SEQUENCE, all);
-        put_space(out, at + heads::head_size(all), space);
-        return;
+// A family, or a member, by its kind, its space, and how many octets its choice has.
+#[derive(Clone, Copy)]
+struct Group {
+    kind: u64,
+    space: u64,
+    choice: usize,
+    ghost few: { choice ≤ spec.choice_most },
+}
+
+impl Group {
+    // How many octets stand before the choice.
+    fn heads_size(self) -> usize
+        ensures { (result ≡ length (group_heads self.kind self.space self.choice)) × (result ≤ spec.group_most) }
+    {
+        if self.kind == spaces::IP {
+            let first = element_size(space_size(self.space));
+            return heads::head_size(first + self.choice) + first;
+        }
+        heads::head_size(self.choice)
     }
-    if space == spaces::AS_NUMBERS {
-        heads::put_head(out, at, limits::ASNUM, choice);
-        return;
+
+    // Writes what stands before the choice, at a place.
+    fn put_heads(self, out: &mut [u8], at: usize)
+        requires { (kind_of self.space ≡ self.kind) × (at + length (group_heads self.kind self.space self.choice) ≤ length out.old) }
+        ensures { out.new ≡ written out.old at (group_heads self.kind self.space self.choice) }
+    {
+        if self.kind == spaces::IP {
+            let all = element_size(space_size(self.space)) + self.choice;
+            heads::put_head(out, at, tags::SEQUENCE, all);
+            put_space(out, at + heads::head_size(all), self.space);
+            return;
+        }
+        if self.space == spaces::AS_NUMBERS {
+            heads::put_head(out, at, limits::ASNUM, self.choice);
+            return;
+        }
+        heads::put_head(out, at, limits::RDI, self.choice);
     }
-    heads::put_head(out, at, limits::RDI, choice);
 }
