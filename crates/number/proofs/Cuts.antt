@@ -1,18 +1,19 @@
 -- Bits cut off and filled in, in the two words of a number. Theorems. Assumes nothing.
 --     made     two words are the halves of their number
 --     cut_lower, cut_upper     a number without its last bits, by where the cut is
---     ones_fit     a word with ones for its last bits
---     filled_lower, filled_upper     a number with ones for its last bits, by where they start
-use mathlib.Core.Path.{◌≡◌, refl, sym, ◌∙◌}
+--     flipped_is     two words with all bits the other ones.      filled_is     a number with ones for its last bits
+use mathlib.Core.Path.{◌≡◌, refl, sym, ap, ◌∙◌}
 use Prim.Native.Nat.{ℕ, ◌+◌, ◌-◌, ◌*◌, ◌/◌, ◌%◌, ◌^◌, ◌≤◌, ◌<◌}
 use native.Mathlib.Omega.{arith}
-use native.Mathlib.Nat.{mul-add-mod_self_right}
+use native.Mathlib.Nat.{mod-lt, mul-add-mod_self_right}
 use lib.Arith.{digits_lt}
-use lib.Pow.{pow_pos, pow-add, split, high, shl_exact, shr-shr, shr_lt, ones_lt, ones_split, mod-mod-pow}
-use Rattle.number.specs.Halves.{halves, bits}
+use lib.Pow.{pow_pos, pow-add, split, high, shl_exact, shr-shr, shr_lt, ones_lt, mod-mod-pow}
+use Rattle.number.specs.Halves.{whole, halves, bits}
+use Rattle.number.specs.declared.halves.Halves.{Halves}
 use Rattle.number.specs.declared.halves.Width.{Width}
 use Rattle.number.specs.declared.halves.Width.TheVariants.{Bits32, Bits128}
-use Rattle.number.proofs.TwoHalves.{halves_whole}
+use Rattle.number.proofs.TwoHalves.{halves_whole, whole_halves}
+use Rattle.number.proofs.Runs.{flip_words}
 
 -- the wider width has 128 bits
 pub bits_le : (width : Width) → bits width ≤ 128
@@ -66,22 +67,27 @@ fill_below w j x h b =
     let d : x / 2 ^ j * 2 ^ j + (2 ^ j - 1) < 2 ^ (w - j) * 2 ^ j = digits_lt (shr_lt (w - j) j (rw (← e) at b)) (ones_lt j) in
     omega (arith, rw e at (pow-add 2 (w - j) j))
 
--- a word with ones for its last j bits is a word
-pub ones_fit : {r : ℕ} (x j : ℕ) → j < 64 → x < 2 ^ 64 → r ≡ x / 2 ^ j * 2 ^ j → r + (1 * 2 ^ j % 2 ^ 64 - 1) < 2 ^ 64
-ones_fit x j h b e = rw (unit_is j h, e) (fill_below 64 j x (omega arith) b)
+-- all bits of two words the other ones
+pub flipped_is : (u l : ℕ) → u < 2 ^ 64 → l < 2 ^ 64 → record { upper = 18446744073709551615 - u; lower = 18446744073709551615 - l } ≡ halves (2 ^ 128 - 1 - (u * 2 ^ 64 + l))
+flipped_is u l a b = made (18446744073709551615 - u) (18446744073709551615 - l) (2 ^ 128 - 1 - (u * 2 ^ 64 + l)) (omega arith) (sym (flip_words 64 64 u l a b))
 
--- what `filled` gives at each of its ends
-module _ (u l j : ℕ) (b : l < 2 ^ 64) where
-  -- the ones are in the lower word
-  pub filled_lower : {r : ℕ} → j < 64 → r ≡ l / 2 ^ j * 2 ^ j + (2 ^ j - 1) → record { upper = u; lower = r } ≡ halves ((u * 2 ^ 64 + l) / 2 ^ j * 2 ^ j + (2 ^ j - 1))
-  filled_lower {r} h e = made u r ((u * 2 ^ 64 + l) / 2 ^ j * 2 ^ j + (2 ^ j - 1)) (rw e (fill_below 64 j l (omega arith) b)) (omega (arith, low_cut 64 j u l (omega arith)))
+-- the last j of w bits are ones where they are zeros with all bits the other ones
+fill_flip : (w j x : ℕ) → j ≤ w → x < 2 ^ w → 2 ^ w - 1 - (2 ^ w - 1 - x) / 2 ^ j * 2 ^ j ≡ x / 2 ^ j * 2 ^ j + (2 ^ j - 1)
+fill_flip w j x h b =
+    let e : (w - j) + j ≡ w = omega arith in
+    let q : x / 2 ^ j < 2 ^ (w - j) = shr_lt (w - j) j (rw (← e) at b) in
+    let p = pow_pos j in
+    let f : 2 ^ w - 1 - x ≡ (2 ^ (w - j) - 1 - x / 2 ^ j) * 2 ^ j + (2 ^ j - 1 - x % 2 ^ j) =
+    rw (e, split x j) at (flip_words (w - j) j (x / 2 ^ j) (x % 2 ^ j) q (mod-lt x p)) in
+    let g : (2 ^ w - 1 - x) / 2 ^ j ≡ 2 ^ (w - j) - 1 - x / 2 ^ j = rw f (high (2 ^ (w - j) - 1 - x / 2 ^ j) j (omega arith)) in
+    let k : 2 ^ w - 1 - ((2 ^ (w - j) - 1 - x / 2 ^ j) * 2 ^ j + 0) ≡ (2 ^ (w - j) - 1 - (2 ^ (w - j) - 1 - x / 2 ^ j)) * 2 ^ j + (2 ^ j - 1 - 0) =
+    rw e at (flip_words (w - j) j (2 ^ (w - j) - 1 - x / 2 ^ j) 0 (omega arith) p) in
+    let i : 2 ^ (w - j) - 1 - (2 ^ (w - j) - 1 - x / 2 ^ j) ≡ x / 2 ^ j = omega arith in
+    rw g (omega (arith, rw i at k))
 
-  -- or in all of it, and some of the upper one
-  pub filled_upper : {r : ℕ} → 64 ≤ j → r ≡ u / 2 ^ (j - 64) * 2 ^ (j - 64) + (2 ^ (j - 64) - 1)
-      → record { upper = r; lower = 18446744073709551615 } ≡ halves ((u * 2 ^ 64 + l) / 2 ^ j * 2 ^ j + (2 ^ j - 1))
-  filled_upper {r} h e =
-      let i : 64 + (j - 64) ≡ j = omega arith in
-      let k : (j - 64) + 64 ≡ j = omega arith in
-      let c : u / 2 ^ (j - 64) * 2 ^ (j - 64) * 2 ^ 64 ≡ (u * 2 ^ 64 + l) / 2 ^ j * 2 ^ j = rw i at (high_cut 64 (j - 64) u l b) in
-      let o : 2 ^ j - 1 ≡ (2 ^ (j - 64) - 1) * 2 ^ 64 + (2 ^ 64 - 1) = rw k at (ones_split (j - 64) 64) in
-      made r 18446744073709551615 ((u * 2 ^ 64 + l) / 2 ^ j * 2 ^ j + (2 ^ j - 1)) (omega arith) (rw (e, o, ← c) (omega arith))
+-- so `filled` is `cut` between two flips
+pub filled_is : {m c r : Halves} (x j : ℕ) → j ≤ 128 → x < 2 ^ 128 → m ≡ halves (2 ^ 128 - 1 - x) → c ≡ halves (whole m / 2 ^ j * 2 ^ j) → r ≡ halves (2 ^ 128 - 1 - whole c)
+    → r ≡ halves (x / 2 ^ j * 2 ^ j + (2 ^ j - 1))
+filled_is {m} {c} {r} x j h b e f g =
+    let u : whole c ≡ (2 ^ 128 - 1 - x) / 2 ^ j * 2 ^ j = ap whole f ∙ whole_halves _ ∙ ap (λ (y : ℕ). y / 2 ^ j * 2 ^ j) (ap whole e ∙ whole_halves _) in
+    g ∙ ap (λ (y : ℕ). halves (2 ^ 128 - 1 - y)) u ∙ ap halves (fill_flip 128 j x h b)

@@ -1,10 +1,8 @@
 -- `number::shape::is_prefix` meets its contract. Assumes nothing.
-use Rattle.std.proofs.Common.{rules}
-use Rattle.number.proofs.Telling.{free_fits, test_is}
+use mathlib.Core.Path.{ap, ◌∙◌}
+use Rattle.std.specs.Prelude.{Option, is_some, ℕ}
+use Rattle.number.proofs.Telling.{is_told}
 use Rattle.number.proofs.shape.is_prefix.Goals as goal
 
-pub overflow_sub-count : goal.overflow_sub-count
-overflow_sub-count c = search (free_fits, rules)
-
 pub returns : goal.returns
-returns c = search (test_is, rules)
+returns c = c.is_some.ensures ∙ (ap (λ (o : Option ℕ). is_some o) c.prefix.ensures ∙ is_told _ _ _)
