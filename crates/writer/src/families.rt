@@ -2,7 +2,7 @@
 // A list's heads say its length, so they are counted or written once its first row was passed: the list is open until then.
 ghost use Rattle.std.specs.Prelude.{◌≡◌, ◌+◌, ◌≤◌, length};
 ghost use Rattle.table.specs.Rows.{seen};
-ghost use Rattle.table.specs.Spaces.{kind_of};
+ghost use Rattle.table.specs.Spaces.{kind_number, kind_of};
 ghost use Rattle.der.specs.Tags.{SEQUENCE};
 ghost use Rattle.der.specs.Head.{element};
 ghost use Rattle.values.specs.Encode.{row_octets};
@@ -12,8 +12,9 @@ ghost use Rattle.writer.specs.Writer as reply;
 use crate::{Group, Listed, Writing, element_size, refuse};
 use der::{heads, tags};
 use number::refusal::Refusal;
+use table::kinds::Kind;
 use table::rows::Row;
-use table::{rows, spaces, tables};
+use table::{rows, tables};
 use values::limits;
 
 // The rows of one space that were passed last: their space, and how many octets their elements have.
@@ -53,9 +54,9 @@ fn onward(list: Option<Open>, row: Row, n: usize) -> Option<Open>
 }
 
 // How many octets stand in a family before the n octets of its choice's contents.
-fn frame_size(kind: u64, space: u64, n: usize) -> usize
+fn frame_size(kind: Kind, space: u64, n: usize) -> usize
     requires { n ≤ reply.list_most }
-    ensures { (result ≡ length (spec.frame kind space SEQUENCE n)) × (result ≤ reply.heads_most) }
+    ensures { (result ≡ length (spec.frame (kind_number kind) space SEQUENCE n)) × (result ≤ reply.heads_most) }
 {
     let choice = element_size(n);
     Group {
@@ -68,9 +69,9 @@ fn frame_size(kind: u64, space: u64, n: usize) -> usize
 }
 
 // How many octets the heads of the open list have; 0 where there is none.
-fn open_size(kind: u64, list: Option<Open>) -> usize
+fn open_size(kind: Kind, list: Option<Open>) -> usize
     requires { spec.size_in list ≤ reply.list_most }
-    ensures { (result ≡ length (spec.open_heads kind list)) × (result ≤ reply.heads_most) }
+    ensures { (result ≡ length (spec.open_heads (kind_number kind) list)) × (result ≤ reply.heads_most) }
 {
     match list {
         Some(open) => frame_size(kind, open.space, open.size),
@@ -79,9 +80,9 @@ fn open_size(kind: u64, list: Option<Open>) -> usize
 }
 
 // How many octets the heads have that stand behind a row.
-fn closing_size(kind: u64, list: Option<Open>, row: Row) -> usize
+fn closing_size(kind: Kind, list: Option<Open>, row: Row) -> usize
     requires { spec.size_in list ≤ reply.list_most }
-    ensures { (result ≡ length (spec.closing kind list (seen row))) × (result ≤ reply.heads_most) }
+    ensures { (result ≡ length (spec.closing (kind_number kind) list (seen row))) × (result ≤ reply.heads_most) }
 {
     if joins(list, row) {
         return 0;
@@ -90,9 +91,9 @@ fn closing_size(kind: u64, list: Option<Open>, row: Row) -> usize
 }
 
 // How many octets a row has of its own.
-fn own_size(kind: u64, row: Row) -> usize
-    requires { spec.Own kind (seen row) }
-    ensures { (result ≡ length (spec.own kind (seen row))) × (result ≤ reply.row_most) }
+fn own_size(kind: Kind, row: Row) -> usize
+    requires { spec.Own (kind_number kind) (seen row) }
+    ensures { (result ≡ length (spec.own (kind_number kind) (seen row))) × (result ≤ reply.row_most) }
 {
     if row.inherit == 1 {
         return frame_size(kind, row.space, 0);
@@ -103,15 +104,15 @@ fn own_size(kind: u64, row: Row) -> usize
 // A table of one kind, IP or AS, that `tables::is_table` accepts.
 #[derive(Clone, Copy)]
 struct OneKind<'a> {
-    kind: u64,
+    kind: Kind,
     table: &'a [u64],
-    ghost sound: { spec.Table kind table.now },
+    ghost sound: { spec.Table (kind_number kind) table.now },
 }
 
 impl<'a> OneKind<'a> {
     // How many octets its families have.
     fn size(self) -> usize
-        ensures { (result ≡ length (spec.families self.entry.kind self.entry.table.now)) × (result ≤ reply.families_most) }
+        ensures { (result ≡ length (spec.families (kind_number self.entry.kind) self.entry.table.now)) × (result ≤ reply.families_most) }
     {
         let mut list = None;
         let mut size: usize = 0;
@@ -126,7 +127,7 @@ impl<'a> OneKind<'a> {
 
     // Writes its value to the start of `out`, if it has room.
     fn put(self, out: &mut [u8]) -> Writing
-        ensures { (result, out.new) ≡ reply.put (element SEQUENCE (spec.families self.entry.kind self.entry.table.now)) out.old }
+        ensures { (result, out.new) ≡ reply.put (element SEQUENCE (spec.families (kind_number self.entry.kind) self.entry.table.now)) out.old }
     {
         let inner = self.size();
         let all = element_size(inner);
@@ -151,10 +152,10 @@ struct Backwards<'a> {
 
 impl<'a> Backwards<'a> {
     // What stands in a family before the n octets of its choice's contents.
-    fn frame(&mut self, kind: u64, space: u64, tag: u8, n: usize)
-        requires { (kind_of space ≡ kind) × (n ≤ reply.list_most) × (length (spec.frame kind space tag n) ≤ self.old.start) }
+    fn frame(&mut self, kind: Kind, space: u64, tag: u8, n: usize)
+        requires { (kind_of space ≡ kind_number kind) × (n ≤ reply.list_most) × (length (spec.frame (kind_number kind) space tag n) ≤ self.old.start) }
         ensures same_run { self.new.out.ghost_name ≡ self.old.out.ghost_name }
-        ensures written { spec.Upto self.old.out.now self.old.start (spec.frame kind space tag n) self.new.start self.new.out.now }
+        ensures written { spec.Upto self.old.out.now self.old.start (spec.frame (kind_number kind) space tag n) self.new.start self.new.out.now }
     {
         self.start -= heads::head_size(n);
         heads::put_head(self.out, self.start, tag, n);
@@ -169,10 +170,10 @@ impl<'a> Backwards<'a> {
     }
 
     // The heads of the open list.
-    fn close(&mut self, kind: u64, list: Option<Open>)
-        requires { spec.Opened kind list × (length (spec.open_heads kind list) ≤ self.old.start) }
+    fn close(&mut self, kind: Kind, list: Option<Open>)
+        requires { spec.Opened (kind_number kind) list × (length (spec.open_heads (kind_number kind) list) ≤ self.old.start) }
         ensures same_run { self.new.out.ghost_name ≡ self.old.out.ghost_name }
-        ensures written { spec.Upto self.old.out.now self.old.start (spec.open_heads kind list) self.new.start self.new.out.now }
+        ensures written { spec.Upto self.old.out.now self.old.start (spec.open_heads (kind_number kind) list) self.new.start self.new.out.now }
     {
         if let Some(open) = list {
             self.frame(kind, open.space, tags::SEQUENCE, open.size);
@@ -180,10 +181,10 @@ impl<'a> Backwards<'a> {
     }
 
     // The heads that stand behind a row.
-    fn closing(&mut self, kind: u64, list: Option<Open>, row: Row)
-        requires { spec.Opened kind list × (length (spec.closing kind list (seen row)) ≤ self.old.start) }
+    fn closing(&mut self, kind: Kind, list: Option<Open>, row: Row)
+        requires { spec.Opened (kind_number kind) list × (length (spec.closing (kind_number kind) list (seen row)) ≤ self.old.start) }
         ensures same_run { self.new.out.ghost_name ≡ self.old.out.ghost_name }
-        ensures written { spec.Upto self.old.out.now self.old.start (spec.closing kind list (seen row)) self.new.start self.new.out.now }
+        ensures written { spec.Upto self.old.out.now self.old.start (spec.closing (kind_number kind) list (seen row)) self.new.start self.new.out.now }
     {
         if !joins(list, row) {
             self.close(kind, list);
@@ -192,19 +193,19 @@ impl<'a> Backwards<'a> {
 
     // The element of a row that lists numbers.
     fn listed(&mut self, listed: Listed)
-        requires { length (row_octets listed.kind (seen listed.row)) ≤ self.old.start }
+        requires { length (row_octets (kind_number listed.kind) (seen listed.row)) ≤ self.old.start }
         ensures same_run { self.new.out.ghost_name ≡ self.old.out.ghost_name }
-        ensures written { spec.Upto self.old.out.now self.old.start (row_octets listed.kind (seen listed.row)) self.new.start self.new.out.now }
+        ensures written { spec.Upto self.old.out.now self.old.start (row_octets (kind_number listed.kind) (seen listed.row)) self.new.start self.new.out.now }
     {
         self.start -= listed.size();
         listed.put(self.out, self.start);
     }
 
     // A row's own octets.
-    fn own(&mut self, kind: u64, row: Row)
-        requires { spec.Own kind (seen row) × (length (spec.own kind (seen row)) ≤ self.old.start) }
+    fn own(&mut self, kind: Kind, row: Row)
+        requires { spec.Own (kind_number kind) (seen row) × (length (spec.own (kind_number kind) (seen row)) ≤ self.old.start) }
         ensures same_run { self.new.out.ghost_name ≡ self.old.out.ghost_name }
-        ensures written { spec.Upto self.old.out.now self.old.start (spec.own kind (seen row)) self.new.start self.new.out.now }
+        ensures written { spec.Upto self.old.out.now self.old.start (spec.own (kind_number kind) (seen row)) self.new.start self.new.out.now }
     {
         if row.inherit == 1 {
             self.frame(kind, row.space, tags::NULL, 0);
@@ -215,9 +216,9 @@ impl<'a> Backwards<'a> {
 
     // The families of a table.
     fn families(&mut self, one: OneKind)
-        requires { length (spec.families one.kind one.table.now) ≤ self.old.start }
+        requires { length (spec.families (kind_number one.kind) one.table.now) ≤ self.old.start }
         ensures same_run { self.new.out.ghost_name ≡ self.old.out.ghost_name }
-        ensures written { spec.Upto self.old.out.now self.old.start (spec.families one.entry.kind one.entry.table.now) self.new.start self.new.out.now }
+        ensures written { spec.Upto self.old.out.now self.old.start (spec.families (kind_number one.entry.kind) one.entry.table.now) self.new.start self.new.out.now }
     {
         let mut list = None;
         for k in (0..one.table.len() / rows::ROW).rev() {
@@ -232,10 +233,10 @@ impl<'a> Backwards<'a> {
 }
 
 // Whether a table lacks the row that its kind asks for: "an AS table at least one".
-fn rowless(kind: u64, count: usize) -> bool
-    ensures { result ≡ reply.rowless kind count }
+fn rowless(kind: Kind, count: usize) -> bool
+    ensures { result ≡ reply.rowless (kind_number kind) count }
 {
-    kind == spaces::AS && count == 0
+    kind == Kind::As && count == 0
 }
 
 // Writes the value of a table of the kind, 1 (IP) or 2 (AS), to the start of `out`.
@@ -243,11 +244,14 @@ fn rowless(kind: u64, count: usize) -> bool
 pub fn write(kind: u64, table: &[u64], out: &mut [u8]) -> Writing
     ensures { (result, out.new) ≡ reply.write kind table.now out.old }
 {
-    if kind == spaces::MIXED || !tables::is_table(kind, table) {
+    let Ok(own) = Kind::try_from(kind) else {
+        return refuse(Refusal::NotATable, 0);
+    };
+    if !tables::is_table(kind, table) {
         return refuse(Refusal::NotATable, 0);
     }
-    if rowless(kind, table.len() / rows::ROW) {
+    if rowless(own, table.len() / rows::ROW) {
         return refuse(Refusal::EmptyList, limits::AS_EXTENSION);
     }
-    OneKind { kind, table }.put(out)
+    OneKind { kind: own, table }.put(out)
 }

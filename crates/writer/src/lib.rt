@@ -8,7 +8,7 @@ mod families;
 ghost use Rattle.std.specs.Prelude.{◌≡◌, ◌+◌, ◌^◌, ◌<◌, ◌≤◌, ◌++◌, length};
 ghost use Rattle.number.specs.Halves.{whole, bits as bits_of};
 ghost use Rattle.table.specs.Rows.{seen};
-ghost use Rattle.table.specs.Spaces.{ip_kind, kind_of, width_of};
+ghost use Rattle.table.specs.Spaces.{ip_kind, kind_number, kind_of, width_of};
 ghost use Rattle.der.specs.Tags.{BIT_STRING, INTEGER, OCTET_STRING, SEQUENCE};
 ghost use Rattle.der.specs.Head.{element};
 ghost use Rattle.der.specs.Bits.{bits_of as bit_octets};
@@ -23,6 +23,7 @@ pub use families::write;
 use number::halves::{Halves, Width};
 use number::refusal::Refusal;
 use number::{address, kept, shape};
+use table::kinds::Kind;
 use table::rows::Row;
 use table::spaces;
 use values::readings::Refused;
@@ -236,32 +237,31 @@ impl Ids {
 // A row that lists numbers of its space's width, in a table of the kind.
 #[derive(Clone, Copy)]
 struct Listed {
-    kind: u64,
+    kind: Kind,
     row: Row,
-    ghost lists: { spec.Lists kind (seen row) },
+    ghost lists: { spec.Lists (kind_number kind) (seen row) },
 }
 
 impl Listed {
     // How many octets its element has.
     fn size(self) -> usize
-        ensures { (result ≡ length (row_octets self.kind (seen self.row))) × (result ≤ spec.row_most) }
+        ensures { (result ≡ length (row_octets (kind_number self.kind) (seen self.row))) × (result ≤ spec.row_most) }
     {
-        if self.kind == spaces::IP {
-            return Span::of(self.row).size();
+        match self.kind {
+            Kind::Ip => Span::of(self.row).size(),
+            Kind::As => Ids::of(self.row).size(),
         }
-        Ids::of(self.row).size()
     }
 
     // Writes its element at a place.
     fn put(self, out: &mut [u8], at: usize)
-        requires { at + length (row_octets self.kind (seen self.row)) ≤ length out.old }
-        ensures { out.new ≡ written out.old at (row_octets self.kind (seen self.row)) }
+        requires { at + length (row_octets (kind_number self.kind) (seen self.row)) ≤ length out.old }
+        ensures { out.new ≡ written out.old at (row_octets (kind_number self.kind) (seen self.row)) }
     {
-        if self.kind == spaces::IP {
-            Span::of(self.row).put(out, at);
-            return;
+        match self.kind {
+            Kind::Ip => Span::of(self.row).put(out, at),
+            Kind::As => Ids::of(self.row).put(out, at),
         }
-        Ids::of(self.row).put(out, at);
     }
 }
 
@@ -299,7 +299,7 @@ fn put_space(out: &mut [u8], at: usize, space: u64)
 // A family, or a member, by its kind, its space, and how many octets its choice has.
 #[derive(Clone, Copy)]
 struct Group {
-    kind: u64,
+    kind: Kind,
     space: u64,
     choice: usize,
     ghost few: { choice ≤ spec.choice_most },
@@ -308,30 +308,32 @@ struct Group {
 impl Group {
     // How many octets stand before the choice.
     fn heads_size(self) -> usize
-        ensures { (result ≡ length (group_heads self.kind self.space self.choice)) × (result ≤ spec.group_most) }
+        ensures { (result ≡ length (group_heads (kind_number self.kind) self.space self.choice)) × (result ≤ spec.group_most) }
     {
-        if self.kind == spaces::IP {
-            let first = element_size(space_size(self.space));
-            return heads::head_size(first + self.choice) + first;
+        match self.kind {
+            Kind::Ip => {
+                let first = element_size(space_size(self.space));
+                heads::head_size(first + self.choice) + first
+            }
+            Kind::As => heads::head_size(self.choice),
         }
-        heads::head_size(self.choice)
     }
 
     // Writes what stands before the choice, at a place.
     fn put_heads(self, out: &mut [u8], at: usize)
-        requires { (kind_of self.space ≡ self.kind) × (at + length (group_heads self.kind self.space self.choice) ≤ length out.old) }
-        ensures { out.new ≡ written out.old at (group_heads self.kind self.space self.choice) }
+        requires { (kind_of self.space ≡ kind_number self.kind) × (at + length (group_heads (kind_number self.kind) self.space self.choice) ≤ length out.old) }
+        ensures { out.new ≡ written out.old at (group_heads (kind_number self.kind) self.space self.choice) }
     {
-        if self.kind == spaces::IP {
-            let all = element_size(space_size(self.space)) + self.choice;
-            heads::put_head(out, at, tags::SEQUENCE, all);
-            put_space(out, at + heads::head_size(all), self.space);
-            return;
+        match self.kind {
+            Kind::Ip => {
+                let all = element_size(space_size(self.space)) + self.choice;
+                heads::put_head(out, at, tags::SEQUENCE, all);
+                put_space(out, at + heads::head_size(all), self.space);
+            }
+            Kind::As if self.space == spaces::AS_NUMBERS => {
+                heads::put_head(out, at, limits::ASNUM, self.choice);
+            }
+            Kind::As => heads::put_head(out, at, limits::RDI, self.choice),
         }
-        if self.space == spaces::AS_NUMBERS {
-            heads::put_head(out, at, limits::ASNUM, self.choice);
-            return;
-        }
-        heads::put_head(out, at, limits::RDI, self.choice);
     }
 }

@@ -2,16 +2,17 @@
 use native.Mathlib.Omega.{arith}
 use Rattle.der.proofs.laws.Heads.{head_few}
 use Rattle.writer.proofs.Fronts.{family_size, member_size}
+use Rattle.table.proofs.laws.Papers.{ip_number, as_number}
 use Rattle.writer.proofs.Group.heads_size.Goals as goal
 
 pub overflow_add-first : goal.overflow_add-first
 overflow_add-first c = omega (arith, head_few c.space_size.result)
 
 pub overflow_add-result : goal.overflow_add-result
-overflow_add-result c = let f = family_size _ _ _ c.if-self-eq-IP.true c.space_size.ensures.0 c.space_size.ensures.1 c.element_size-first.ensures c.head_size.ensures in omega (arith, f.1)
+overflow_add-result c = let f = family_size _ _ _ (ip_number c.in-Ip.is) c.space_size.ensures.0 c.space_size.ensures.1 c.element_size-first.ensures c.head_size.ensures in omega (arith, f.1)
 
-pub returns-then-self-eq-IP : goal.returns-then-self-eq-IP
-returns-then-self-eq-IP c = family_size _ _ _ c.if-self-eq-IP.true c.space_size.ensures.0 c.space_size.ensures.1 c.element_size-first.ensures c.head_size.ensures
+pub returns-in-Ip : goal.returns-in-Ip
+returns-in-Ip c = family_size _ _ _ (ip_number c.in-Ip.is) c.space_size.ensures.0 c.space_size.ensures.1 c.element_size-first.ensures c.head_size.ensures
 
-pub returns : goal.returns
-returns c = member_size _ _ _ c.if-self-eq-IP.false c.head_size-2.ensures
+pub returns-in-As : goal.returns-in-As
+returns-in-As c = member_size _ _ _ (as_number c.in-As.is) c.head_size-in-As.ensures

@@ -1,15 +1,16 @@
 -- `writer::Listed::put` meets its contract. Assumes nothing.
 use Rattle.writer.proofs.Listing.{ip_row, as_row}
+use Rattle.table.proofs.laws.Papers.{ip_number, as_number}
 use Rattle.writer.proofs.Listed.put.Goals as goal
 
 pub put-requires : goal.put-requires
-put-requires c = rw (ip_row _ c.args.self.row c.if-self-eq-IP.true c.of.ensures) at c.requires
+put-requires c = rw (ip_row _ c.args.self.row (ip_number c.in-Ip.is) c.of.ensures) at c.requires
 
-pub returns-then-self-eq-IP : goal.returns-then-self-eq-IP
-returns-then-self-eq-IP c = rw (ip_row _ c.args.self.row c.if-self-eq-IP.true c.of.ensures) c.put.ensures
+pub returns-in-Ip : goal.returns-in-Ip
+returns-in-Ip c = rw (ip_row _ c.args.self.row (ip_number c.in-Ip.is) c.of.ensures) c.put.ensures
 
-pub put-requires-2 : goal.put-requires-2
-put-requires-2 c = rw (as_row _ c.args.self.row c.if-self-eq-IP.false c.of-2.ensures) at c.requires
+pub put-requires-in-As : goal.put-requires-in-As
+put-requires-in-As c = rw (as_row _ c.args.self.row (as_number c.in-As.is) c.of-in-As.ensures) at c.requires
 
-pub returns : goal.returns
-returns c = rw (as_row _ c.args.self.row c.if-self-eq-IP.false c.of-2.ensures) c.put-2.ensures
+pub returns-in-As : goal.returns-in-As
+returns-in-As c = rw (as_row _ c.args.self.row (as_number c.in-As.is) c.of-in-As.ensures) c.put-in-As.ensures

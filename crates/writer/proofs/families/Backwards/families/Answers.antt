@@ -1,12 +1,13 @@
 -- `writer::families::Backwards::families` meets its contract. Assumes nothing.
 use mathlib.Core.Path.{refl}
 use borrow.Author.Rules.{rules}
+use Rattle.table.specs.Spaces.{kind_number}
 use Rattle.writer.proofs.Placing.{place_start, place_closing, place_own, place_few, place_turn, place_last, place_end}
 use Rattle.writer.proofs.Passing.{pass_own, pass_opened}
 use Rattle.writer.proofs.families.Backwards.families.Goals as goal
 
 pub loop-k-init : goal.loop-k-init
-loop-k-init c = (refl, place_start c.args.one.kind c.args.one.table.now c.args.self.now.out.now c.args.self.now.start c.args.self.now.inside)
+loop-k-init c = (refl, place_start (kind_number c.args.one.kind) c.args.one.table.now c.args.self.now.out.now c.args.self.now.start c.args.self.now.inside)
 
 pub closing-requires : goal.closing-requires
 closing-requires c =
