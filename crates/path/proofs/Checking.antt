@@ -20,7 +20,7 @@ use Rattle.table.specs.Sizes.{max_rows, table_numbers}
 use Rattle.table.specs.Rows.{Row, room, rows_of, rows_in, with_rows}
 use Rattle.table.proofs.laws.Rows.{length-with_rows, rows_written, with_rows_over, cleared_rows}
 use Rattle.der.specs.Parts.{is, isnt}
-use Rattle.values.specs.Limits.{ip_extension, as_extension, as_numbers}
+use Rattle.values.specs.Limits.{ip_extension, as_extension}
 use Rattle.values.specs.declared.readings.Refused.{Refused}
 use Rattle.path.specs.Walk.{Result, covered, missing, walk, replied, walked_of}
 use Rattle.path.specs.Inherit.{resolved, Spaces, all, lacks, lacking, filled_in, inherit, Inherited}

@@ -6,11 +6,11 @@
 --     row_columns, row_low, row_high    the columns and the row
 --     put_row, put_none     what `put` leaves
 use mathlib.Core.Path.{◌≡◌, refl, sym, ap, ap₂, ◌∙◌}
-use mathlib.Core.List.{List, [], ◌∷◌, ◌++◌, append_assoc}
+use mathlib.Core.List.{List, ◌++◌, append_assoc}
 use mathlib.Core.Bool.{Bool, true, false}
 use Prim.Native.Nat.{ℕ, ◌+◌, ◌-◌, ◌*◌, ◌≤◌, ◌<◌, ◌^◌}
 use native.Mathlib.Omega.{arith}
-use lib.ListN.{get_or, take, drop, set}
+use lib.ListN.{get_or, take, drop}
 use lib.Seq.{get_or-drop}
 use borrow.Author.Tests.{lt-ltb, le-ltb}
 use borrow.Rule.Slice.PartMut.{put_mid, Post-is}

@@ -13,7 +13,7 @@ use lib.Pow.{pow_pos, pow-lt, pow-add, split, high, low, shl-shr, mod-pow-add, o
 use borrow.Author.Tests.{lt-ltb, eq-eqb, ne_eqb, eqb-false, not-true}
 use Rattle.number.specs.Kept.{run, kept_min, lost_max, kept_max, one_filled}
 use Rattle.number.specs.Shape.{free, is_prefix}
-use Rattle.number.proofs.Cuts.{unit_is, unit_pos, fill_below}
+use Rattle.number.proofs.Cuts.{unit_is, fill_below}
 use Rattle.number.proofs.Picks.{below}
 use Rattle.number.proofs.laws.Runs.{run_to, run_from}
 use Rattle.values.specs.Forms.{span, ranged}
