@@ -58,14 +58,12 @@ fn frame_size(kind: Kind, space: u64, n: usize) -> usize
     requires { n ≤ reply.list_most }
     ensures { (result ≡ length (spec.frame (kind_number kind) space SEQUENCE n)) × (result ≤ reply.heads_most) }
 {
-    let choice = element_size(n);
-    Group {
+    let group = Group {
         kind,
         space,
-        choice,
-    }
-    .heads_size()
-        + heads::head_size(n)
+        choice: element_size(n),
+    };
+    group.heads_size() + heads::head_size(n)
 }
 
 // How many octets the heads of the open list have; 0 where there is none.
@@ -159,11 +157,10 @@ impl<'a> Backwards<'a> {
     {
         self.start -= heads::head_size(n);
         heads::put_head(self.out, self.start, tag, n);
-        let choice = element_size(n);
         let group = Group {
             kind,
             space,
-            choice,
+            choice: element_size(n),
         };
         self.start -= group.heads_size();
         group.put_heads(self.out, self.start);

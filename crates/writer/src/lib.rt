@@ -66,6 +66,7 @@ struct Bits {
 
 impl Bits {
     // Writes their BIT STRING at a place.
+    #[inline]
     fn put(self, out: &mut [u8], at: usize)
         requires { at + length (element BIT_STRING (bit_octets (bits_of self.width) self.count (whole self.address))) ≤ length out.old }
         ensures { out.new ≡ written out.old at (element BIT_STRING (bit_octets (bits_of self.width) self.count (whole self.address))) }
@@ -106,6 +107,7 @@ struct Span {
 
 impl Span {
     // Those of a row that lists addresses.
+    #[inline]
     fn of(row: Row) -> Span
         requires { spec.Lists ip_kind (seen row) }
         ensures { (result.width ≡ width_of row.space) × (result.low ≡ row.low) × (result.high ≡ row.high) }
@@ -118,6 +120,7 @@ impl Span {
     }
 
     // The bits that its element keeps.
+    #[inline]
     fn form(self) -> Form
         ensures { result ≡ spec.form_seen (form_of (bits_of self.width) (whole self.low) (whole self.high)) }
     {
@@ -134,6 +137,7 @@ impl Span {
     }
 
     // The first n bits of the lowest address.
+    #[inline]
     fn low_bits(self, n: u32) -> Bits
         requires { n ≤ bits_of self.width }
         ensures { (result.width ≡ self.width) × (result.count ≡ n) × (result.address ≡ self.low) }
@@ -146,6 +150,7 @@ impl Span {
     }
 
     // How many octets its element has.
+    #[inline]
     fn size(self) -> usize
         ensures { (result ≡ length (address_octets (bits_of self.width) (whole self.low, whole self.high))) × (result ≤ spec.row_most) }
     {
@@ -158,6 +163,7 @@ impl Span {
     }
 
     // Writes its element at a place.
+    #[inline]
     fn put(self, out: &mut [u8], at: usize)
         requires { at + length (address_octets (bits_of self.width) (whole self.low, whole self.high)) ≤ length out.old }
         ensures { out.new ≡ written out.old at (address_octets (bits_of self.width) (whole self.low, whole self.high)) }
@@ -195,6 +201,7 @@ struct Ids {
 
 impl Ids {
     // Those of a row that lists numbers of 32 bits.
+    #[inline(always)]
     fn of(row: Row) -> Ids
         requires { (whole row.low ≤ whole row.high) × (whole row.high < 2 ^ 32) }
         ensures { (result.low ≡ whole row.low) × (result.high ≡ whole row.high) }
@@ -206,6 +213,7 @@ impl Ids {
     }
 
     // How many octets their element has.
+    #[inline(always)]
     fn size(self) -> usize
         ensures { (result ≡ length (id_octets (self.low, self.high))) × (result ≤ spec.row_most) }
     {
@@ -217,6 +225,7 @@ impl Ids {
     }
 
     // Writes their element at a place.
+    #[inline(always)]
     fn put(self, out: &mut [u8], at: usize)
         requires { at + length (id_octets (self.low, self.high)) ≤ length out.old }
         ensures { out.new ≡ written out.old at (id_octets (self.low, self.high)) }
@@ -244,6 +253,7 @@ struct Listed {
 
 impl Listed {
     // How many octets its element has.
+    #[inline(always)]
     fn size(self) -> usize
         ensures { (result ≡ length (row_octets (kind_number self.kind) (seen self.row))) × (result ≤ spec.row_most) }
     {
@@ -254,6 +264,7 @@ impl Listed {
     }
 
     // Writes its element at a place.
+    #[inline(always)]
     fn put(self, out: &mut [u8], at: usize)
         requires { at + length (row_octets (kind_number self.kind) (seen self.row)) ≤ length out.old }
         ensures { out.new ≡ written out.old at (row_octets (kind_number self.kind) (seen self.row)) }
@@ -307,6 +318,7 @@ struct Group {
 
 impl Group {
     // How many octets stand before the choice.
+    #[inline]
     fn heads_size(self) -> usize
         ensures { (result ≡ length (group_heads (kind_number self.kind) self.space self.choice)) × (result ≤ spec.group_most) }
     {
@@ -320,6 +332,7 @@ impl Group {
     }
 
     // Writes what stands before the choice, at a place.
+    #[inline]
     fn put_heads(self, out: &mut [u8], at: usize)
         requires { (kind_of self.space ≡ kind_number self.kind) × (at + length (group_heads (kind_number self.kind) self.space self.choice) ≤ length out.old) }
         ensures { out.new ≡ written out.old at (group_heads (kind_number self.kind) self.space self.choice) }

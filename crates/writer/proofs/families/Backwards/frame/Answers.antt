@@ -7,7 +7,7 @@ pub overflow_sub-self : goal.overflow_sub-self
 overflow_sub-self c = search (frame_last, rules)
 
 pub invariant_of-group : goal.invariant_of-group
-invariant_of-group c = record { few = size_few _ c.element_size-choice.ensures c.requires.1 }
+invariant_of-group c = record { few = size_few _ c.element_size.ensures c.requires.1 }
 
 pub overflow_sub-self-2 : goal.overflow_sub-self-2
 overflow_sub-self-2 c = search (frame_first, rules)
