@@ -1,7 +1,7 @@
 -- Bits cut off and filled in, in the two words of a number. Theorems. Assumes nothing.
 --     made     two words are the halves of their number
 --     cut_lower, cut_upper     a number without its last bits, by where the cut is
---     flipped_is     two words with all bits the other ones.      filled_is     a number with ones for its last bits
+--     filled_is     a number with ones for its last bits
 use mathlib.Core.Path.{◌≡◌, refl, sym, ap, ◌∙◌}
 use Prim.Native.Nat.{ℕ, ◌+◌, ◌-◌, ◌*◌, ◌/◌, ◌%◌, ◌^◌, ◌≤◌, ◌<◌}
 use native.Mathlib.Omega.{arith}
@@ -66,10 +66,6 @@ fill_below w j x h b =
     let e : (w - j) + j ≡ w = omega arith in
     let d : x / 2 ^ j * 2 ^ j + (2 ^ j - 1) < 2 ^ (w - j) * 2 ^ j = digits_lt (shr_lt (w - j) j (rw (← e) at b)) (ones_lt j) in
     omega (arith, rw e at (pow-add 2 (w - j) j))
-
--- all bits of two words the other ones
-pub flipped_is : (u l : ℕ) → u < 2 ^ 64 → l < 2 ^ 64 → record { upper = 18446744073709551615 - u; lower = 18446744073709551615 - l } ≡ halves (2 ^ 128 - 1 - (u * 2 ^ 64 + l))
-flipped_is u l a b = made (18446744073709551615 - u) (18446744073709551615 - l) (2 ^ 128 - 1 - (u * 2 ^ 64 + l)) (omega arith) (sym (flip_words 64 64 u l a b))
 
 -- the last j of w bits are ones where they are zeros with all bits the other ones
 fill_flip : (w j x : ℕ) → j ≤ w → x < 2 ^ w → 2 ^ w - 1 - (2 ^ w - 1 - x) / 2 ^ j * 2 ^ j ≡ x / 2 ^ j * 2 ^ j + (2 ^ j - 1)
