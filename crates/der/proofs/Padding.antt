@@ -1,19 +1,17 @@
 -- Octets with zeros after them, up to a number of octets, and the numbers that they spell. Theorems. Assumes nothing.
 --     pad      the first n octets of s, zeros where it has fewer.     pad_is       as the contracts of `bits` say it
---     past_end     what `octet_or_zero` answers.       pad_turn, pad_done      the loop of `padded`
---     whole_eight, next_eight, next_none, next_some        what `upper` and `lower` answer.        two_halves      what `sixteen` answers
+--     pad_turn, pad_done       the loop of `padded`.       two_halves      what `sixteen` answers
 use mathlib.Core.Path.{◌≡◌, refl, sym, ap, ◌∙◌}
 use mathlib.Core.List.{List, [], ◌∷◌, ◌++◌, append-nil}
 use Prim.Native.Nat.{ℕ, zero, suc, ◌+◌, ◌-◌, ◌*◌, ◌/◌, ◌^◌, ◌≤◌, ◌<◌}
 use native.Mathlib.Omega.{arith}
 use native.Mathlib.Nat.{mod-eq_of_lt, zero-add, suc-add}
-use lib.ListN.{length, take, drop, get_or, replicate, length-take, length-drop}
+use lib.ListN.{length, take, drop, get_or, replicate}
 use lib.Seq.{take_all}
 use Rattle.number.specs.Octets.{Octets, value}
 use Rattle.number.specs.Address.{address_of, sixteen}
 use Rattle.number.specs.declared.address.Address.{Address}
 use Rattle.number.specs.declared.halves.Width.TheVariants.{Bits128}
-use Rattle.number.proofs.Picks.{rest_of}
 use Rattle.number.proofs.Spelling.{Spelled, turn, at_eight}
 use Rattle.number.proofs.laws.Octets.{octets_tail, value_below, value_octets_lem, value-append}
 
@@ -78,12 +76,6 @@ pad_add (suc j) k [] = rw (suc-add j k) (ap (λ (t : List ℕ). 0 ∷ t) (pad_ad
     drop_none (suc j) = refl
 pad_add (suc j) k (x ∷ s) = rw (suc-add j k) (ap (λ (t : List ℕ). x ∷ t) (pad_add j k s))
 
--- past the end there is no octet
-pub past_end : (s : List ℕ) (k : ℕ) → length s ≤ k → 0 ≡ get_or s k 0
-past_end [] k h = refl
-past_end (x ∷ s) zero h = absurd (omega arith)
-past_end (x ∷ s) (suc k) h = past_end s k (omega arith)
-
 -- one octet more of the eight
 pub pad_turn : (s : List ℕ) {n k b : ℕ} → Spelled (pad 8 s) n k → k < 8 → b ≡ get_or s k 0 → b < 256 → Spelled (pad 8 s) (n * 256 + b) (k + 1)
 pad_turn s {n} {k} {b} v h e r = turn v h b (omega (arith, pad-length 8 s)) (e ∙ sym (pad_at 8 s k h)) r
@@ -91,30 +83,6 @@ pad_turn s {n} {k} {b} v h e r = turn v h b (omega (arith, pad-length 8 s)) (e �
 -- all eight
 pub pad_done : (s : List ℕ) {n k : ℕ} → Spelled (pad 8 s) n k → 8 ≤ k → n ≡ value (take 8 s ++ replicate (8 - length s) 0)
 pad_done s v h = at_eight v h ∙ ap value (take_all 8 (pad 8 s) (omega (arith, pad-length 8 s)) ∙ pad_is 8 s)
-
--- eight octets that are there
-pub whole_eight : {r : ℕ} (s : List ℕ) → 8 ≤ length s → r ≡ value (take 8 (take 8 s)) → r ≡ value (take 8 s ++ replicate (8 - length s) 0)
-whole_eight {r} s h e =
-    let z : 8 - length s ≡ 0 = omega arith in
-    let w : take 8 (take 8 s) ≡ take 8 s = take_all 8 (take 8 s) (omega (arith, length-take 8 s)) in
-    rw (z, append-nil) (e ∙ ap value w)
-
--- the eight after them, where they are there
-pub next_eight : {r : ℕ} (s : List ℕ) → 16 ≤ length s → r ≡ value (take 8 (take 8 (drop 8 s))) → r ≡ value (take 8 (drop 8 s) ++ replicate (8 - length (drop 8 s)) 0)
-next_eight s h e = whole_eight (drop 8 s) (omega (arith, length-drop 8 s)) e
-
--- where there is none of them
-pub next_none : (s : List ℕ) → length s ≤ 8 → 0 ≡ value (take 8 (drop 8 s) ++ replicate (8 - length (drop 8 s)) 0)
-next_none s h = go (drop 8 s) (omega (arith, length-drop 8 s))
-  where
-    go : (t : List ℕ) → length t ≡ 0 → 0 ≡ value (take 8 t ++ replicate (8 - length t) 0)
-    go [] e = refl
-    go (x ∷ t) e = absurd (omega arith)
-
--- where there are some
-pub next_some : {r : ℕ} (s : List ℕ) → r ≡ value (take 8 (take (length s - 8) (drop 8 s)) ++ replicate (8 - length (take (length s - 8) (drop 8 s))) 0)
-    → r ≡ value (take 8 (drop 8 s) ++ replicate (8 - length (drop 8 s)) 0)
-next_some s e = rw (rest_of 8 s) at e
 
 -- sixteen octets are those of the number that they spell
 sixteen_is : (w k : ℕ) (p : List ℕ) → w / 8 ≡ k → 16 - k ≡ 0 → 8 * k ≡ w → length p ≡ k → Octets p → sixteen w (value p) ≡ p

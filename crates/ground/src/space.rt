@@ -5,7 +5,7 @@ use table::spaces;
 fn show(rt: &impl Print, space: u64) {
     let _ = rt.write_all(b"space");
     print::long(rt, space);
-    print::long(rt, spaces::kind(space));
+    print::long(rt, spaces::kind(space).map_or(0, u64::from));
     print::wide(rt, spaces::width(space));
     print::end(rt);
 }

@@ -1,20 +1,19 @@
 -- Bits cut off and filled in, in the two words of a number. Theorems. Assumes nothing.
 --     made     two words are the halves of their number
---     cut_lower, cut_upper, cut_all     a number without its last bits, by where the cut is
---     ones_is, ones_fit     a word with ones for its last bits
---     filled_lower, filled_upper, filled_all     a number with ones for its last bits, by where they start
-use mathlib.Core.Path.{◌≡◌, refl, sym, ◌∙◌}
+--     cut_lower, cut_upper     a number without its last bits, by where the cut is
+--     filled_is     a number with ones for its last bits
+use mathlib.Core.Path.{◌≡◌, refl, sym, ap, ◌∙◌}
 use Prim.Native.Nat.{ℕ, ◌+◌, ◌-◌, ◌*◌, ◌/◌, ◌%◌, ◌^◌, ◌≤◌, ◌<◌}
 use native.Mathlib.Omega.{arith}
-use native.Mathlib.Nat.{mul-add-mod_self_right}
+use native.Mathlib.Nat.{mod-lt, mul-add-mod_self_right}
 use lib.Arith.{digits_lt}
-use lib.Pow.{pow_pos, pow-add, split, high, shl_exact, shr-shr, shr_lt, ones_lt, ones_split, mod-mod-pow}
-use Rattle.number.specs.Halves.{halves, bits}
-use Rattle.number.specs.Kept.{zero_filled, one_filled}
+use lib.Pow.{pow_pos, pow-add, split, high, shl_exact, shr-shr, shr_lt, ones_lt, mod-mod-pow}
+use Rattle.number.specs.Halves.{whole, halves, bits}
 use Rattle.number.specs.declared.halves.Halves.{Halves}
 use Rattle.number.specs.declared.halves.Width.{Width}
 use Rattle.number.specs.declared.halves.Width.TheVariants.{Bits32, Bits128}
-use Rattle.number.proofs.TwoHalves.{halves_whole}
+use Rattle.number.proofs.TwoHalves.{halves_whole, whole_halves}
+use Rattle.number.proofs.Runs.{flip_words}
 
 -- the wider width has 128 bits
 pub bits_le : (width : Width) → bits width ≤ 128
@@ -32,10 +31,6 @@ unit_is j h = shl_exact {a = 1} 1 j 64 (omega arith) (omega arith) ∙ omega ari
 -- it is no zero, so it divides
 pub unit_pos : (j : ℕ) → j < 64 → 0 < 1 * 2 ^ j % 2 ^ 64
 unit_pos j h = rw (unit_is j h) (pow_pos j)
-
--- a word without its last j bits
-pub cut_is : (x j : ℕ) → j < 64 → x - x % (1 * 2 ^ j % 2 ^ 64) ≡ x / 2 ^ j * 2 ^ j
-cut_is x j h = rw (unit_is j h) (omega (arith, split x j))
 
 -- the cut within the lower word of two, of k bits
 low_cut : (k j u l : ℕ) → j ≤ k → u * 2 ^ k + l / 2 ^ j * 2 ^ j ≡ (u * 2 ^ k + l) / 2 ^ j * 2 ^ j
@@ -65,12 +60,6 @@ module _ (u l j : ℕ) (b : l < 2 ^ 64) where
       let c : r * 2 ^ 64 ≡ (u * 2 ^ 64 + l) / 2 ^ j * 2 ^ j = rw e (rw i at (high_cut 64 (j - 64) u l b)) in
       made r 0 ((u * 2 ^ 64 + l) / 2 ^ j * 2 ^ j) (omega arith) (omega arith)
 
-  -- or nothing is left
-  pub cut_all : u < 2 ^ 64 → j ≤ 128 → 128 ≤ j → record { upper = 0; lower = 0 } ≡ halves ((u * 2 ^ 64 + l) / 2 ^ j * 2 ^ j)
-  cut_all a g h =
-      let i : j - 64 ≡ 64 = omega arith in
-      cut_upper (omega arith) (rw i (omega arith))
-
 -- ones in the place of the last j of w bits
 pub fill_below : (w j x : ℕ) → j ≤ w → x < 2 ^ w → x / 2 ^ j * 2 ^ j + (2 ^ j - 1) < 2 ^ w
 fill_below w j x h b =
@@ -78,46 +67,23 @@ fill_below w j x h b =
     let d : x / 2 ^ j * 2 ^ j + (2 ^ j - 1) < 2 ^ (w - j) * 2 ^ j = digits_lt (shr_lt (w - j) j (rw (← e) at b)) (ones_lt j) in
     omega (arith, rw e at (pow-add 2 (w - j) j))
 
--- no more bits are lost than there are
-pub lost_le : {j : ℕ} (width : Width) (kept : ℕ) → j ≡ bits width - kept → j ≤ 128
-lost_le width kept e = omega (arith, bits_le width)
+-- the last j of w bits are ones where they are zeros with all bits the other ones
+fill_flip : (w j x : ℕ) → j ≤ w → x < 2 ^ w → 2 ^ w - 1 - (2 ^ w - 1 - x) / 2 ^ j * 2 ^ j ≡ x / 2 ^ j * 2 ^ j + (2 ^ j - 1)
+fill_flip w j x h b =
+    let e : (w - j) + j ≡ w = omega arith in
+    let q : x / 2 ^ j < 2 ^ (w - j) = shr_lt (w - j) j (rw (← e) at b) in
+    let p = pow_pos j in
+    let f : 2 ^ w - 1 - x ≡ (2 ^ (w - j) - 1 - x / 2 ^ j) * 2 ^ j + (2 ^ j - 1 - x % 2 ^ j) =
+    rw (e, split x j) at (flip_words (w - j) j (x / 2 ^ j) (x % 2 ^ j) q (mod-lt x p)) in
+    let g : (2 ^ w - 1 - x) / 2 ^ j ≡ 2 ^ (w - j) - 1 - x / 2 ^ j = rw f (high (2 ^ (w - j) - 1 - x / 2 ^ j) j (omega arith)) in
+    let k : 2 ^ w - 1 - ((2 ^ (w - j) - 1 - x / 2 ^ j) * 2 ^ j + 0) ≡ (2 ^ (w - j) - 1 - (2 ^ (w - j) - 1 - x / 2 ^ j)) * 2 ^ j + (2 ^ j - 1 - 0) =
+    rw e at (flip_words (w - j) j (2 ^ (w - j) - 1 - x / 2 ^ j) 0 (omega arith) p) in
+    let i : 2 ^ (w - j) - 1 - (2 ^ (w - j) - 1 - x / 2 ^ j) ≡ x / 2 ^ j = omega arith in
+    rw g (omega (arith, rw i at k))
 
--- a word with ones for its last j bits
-pub ones_is : {r : ℕ} (x j : ℕ) → j < 64 → r ≡ x / 2 ^ j * 2 ^ j → r + (1 * 2 ^ j % 2 ^ 64 - 1) ≡ x / 2 ^ j * 2 ^ j + (2 ^ j - 1)
-ones_is x j h e = rw (unit_is j h, e)
-
--- it is a word
-pub ones_fit : {r : ℕ} (x j : ℕ) → j < 64 → x < 2 ^ 64 → r ≡ x / 2 ^ j * 2 ^ j → r + (1 * 2 ^ j % 2 ^ 64 - 1) < 2 ^ 64
-ones_fit x j h b e = rw (ones_is x j h e) (fill_below 64 j x (omega arith) b)
-
--- what `filled` gives at each of its ends
-module _ (u l j : ℕ) (b : l < 2 ^ 64) where
-  -- the ones are in the lower word
-  pub filled_lower : {r : ℕ} → j < 64 → r ≡ l / 2 ^ j * 2 ^ j + (2 ^ j - 1) → record { upper = u; lower = r } ≡ halves ((u * 2 ^ 64 + l) / 2 ^ j * 2 ^ j + (2 ^ j - 1))
-  filled_lower {r} h e = made u r ((u * 2 ^ 64 + l) / 2 ^ j * 2 ^ j + (2 ^ j - 1)) (rw e (fill_below 64 j l (omega arith) b)) (omega (arith, low_cut 64 j u l (omega arith)))
-
-  -- or in all of it, and some of the upper one
-  pub filled_upper : {r : ℕ} → 64 ≤ j → r ≡ u / 2 ^ (j - 64) * 2 ^ (j - 64) + (2 ^ (j - 64) - 1)
-      → record { upper = r; lower = 18446744073709551615 } ≡ halves ((u * 2 ^ 64 + l) / 2 ^ j * 2 ^ j + (2 ^ j - 1))
-  filled_upper {r} h e =
-      let i : 64 + (j - 64) ≡ j = omega arith in
-      let k : (j - 64) + 64 ≡ j = omega arith in
-      let c : u / 2 ^ (j - 64) * 2 ^ (j - 64) * 2 ^ 64 ≡ (u * 2 ^ 64 + l) / 2 ^ j * 2 ^ j = rw i at (high_cut 64 (j - 64) u l b) in
-      let o : 2 ^ j - 1 ≡ (2 ^ (j - 64) - 1) * 2 ^ 64 + (2 ^ 64 - 1) = rw k at (ones_split (j - 64) 64) in
-      made r 18446744073709551615 ((u * 2 ^ 64 + l) / 2 ^ j * 2 ^ j + (2 ^ j - 1)) (omega arith) (rw (e, o, ← c) (omega arith))
-
-  -- or in all of both
-  pub filled_all : u < 2 ^ 64 → j ≤ 128 → 128 ≤ j → record { upper = 18446744073709551615; lower = 18446744073709551615 } ≡ halves ((u * 2 ^ 64 + l) / 2 ^ j * 2 ^ j + (2 ^ j - 1))
-  filled_all a g h =
-      let i : j - 64 ≡ 64 = omega arith in
-      filled_upper (omega arith) (rw i (omega arith))
-
--- what `one_filled` gives
-pub filled_is : {r : Halves} {j : ℕ} (w kept n : ℕ) → j ≡ w - kept → r ≡ halves (n / 2 ^ j * 2 ^ j + (2 ^ j - 1)) → r ≡ halves (one_filled w kept n)
-unfolding one_filled
-filled_is w kept n e f = rw (← e) f
-
--- and what `zero_filled` leaves
-pub cut_filled : {r : Halves} {j : ℕ} (w kept n : ℕ) → j ≡ w - kept → r ≡ halves (n / 2 ^ j * 2 ^ j) → r ≡ halves (zero_filled w kept n)
-unfolding zero_filled
-cut_filled w kept n e f = rw (← e) f
+-- so `filled` is `cut` between two flips
+pub filled_is : {m c r : Halves} (x j : ℕ) → j ≤ 128 → x < 2 ^ 128 → m ≡ halves (2 ^ 128 - 1 - x) → c ≡ halves (whole m / 2 ^ j * 2 ^ j) → r ≡ halves (2 ^ 128 - 1 - whole c)
+    → r ≡ halves (x / 2 ^ j * 2 ^ j + (2 ^ j - 1))
+filled_is {m} {c} {r} x j h b e f g =
+    let u : whole c ≡ (2 ^ 128 - 1 - x) / 2 ^ j * 2 ^ j = ap whole f ∙ whole_halves _ ∙ ap (λ (y : ℕ). y / 2 ^ j * 2 ^ j) (ap whole e ∙ whole_halves _) in
+    g ∙ ap (λ (y : ℕ). halves (2 ^ 128 - 1 - y)) u ∙ ap halves (fill_flip 128 j x h b)

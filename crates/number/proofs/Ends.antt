@@ -2,31 +2,27 @@
 --     zeros_upper, zeros_lower     the zeros at the end of two words of 64 bits, by each word's count
 --     ones_flipped     the ones, by the zeros of both words complemented
 --     at_width     the run at a width of 32 or 128 bits, by the run in 128
---     min_kept; max_none, max_kept, max_lost     how many bits are kept
+--     run_fits, run_room     a run fits its width.        max_none, max_kept, max_lost     how many bits of max are kept
 use mathlib.Core.Path.{◌≡◌, sym, ap, ◌∙◌}
 use mathlib.Core.Bool.{Bool, true, false}
 use Prim.Native.Nat.{ℕ, ◌+◌, ◌-◌, ◌*◌, ◌/◌, ◌^◌, ◌≤◌, ◌<◌, min}
 use native.Mathlib.Omega.{arith}
 use native.Mathlib.Nat.{zero-mul, zero-div, mod-lt}
 use lib.Dec.{eqb}
-use lib.Count.{count_trailing_zeros, trailing_le}
+use lib.Count.{count_trailing_zeros}
 use lib.Pow.{pow_pos, shl-shr}
 use borrow.Author.Tests.{eq-eqb, ne_eqb, eqb-true, eqb-false}
 use Rattle.number.specs.Tests.{pick}
 use Rattle.number.specs.Halves.{whole, halves, bits}
-use Rattle.number.specs.Kept.{run, kept_min, lost_max, kept_max}
+use Rattle.number.specs.Kept.{run, lost_max, kept_max}
 use Rattle.number.specs.declared.halves.Halves.{Halves}
 use Rattle.number.specs.declared.halves.Width.{Width}
 use Rattle.number.specs.declared.halves.Width.TheVariants.{Bits32, Bits128}
-use Rattle.number.proofs.Runs.{run_zeros, run_flip, flip_words, run_words, run_min}
+use Rattle.number.proofs.Runs.{run_zeros, run_flip, run_words, run_min}
 use Rattle.number.proofs.Cuts.{bits_le}
-use Rattle.number.proofs.TwoHalves.{whole_below, whole_halves}
+use Rattle.number.proofs.TwoHalves.{whole_halves}
 use Rattle.number.proofs.laws.Runs.{run_le}
 use Rattle.number.proofs.laws.Orders.{same, halves_same}
-
--- a count of 128 bits fits
-pub count_fits : (u : ℕ) → 64 + count_trailing_zeros 64 u < 2 ^ 32
-count_fits u = omega (arith, trailing_le 64 u)
 
 -- the lower word is 0, and the zeros go on in the upper one
 pub zeros_upper : (u l : ℕ) → l ≡ 0 → 64 + count_trailing_zeros 64 u ≡ run 0 128 (u * 2 ^ 64 + l)
@@ -36,10 +32,6 @@ zeros_upper u l e = sym (rw (eq-eqb l 0 e, run_zeros 64 u) at (run_words 0 64 64
 pub zeros_lower : (u l : ℕ) → (l ≡ 0 → ⊥) → l < 2 ^ 64 → count_trailing_zeros 64 l ≡ run 0 128 (u * 2 ^ 64 + l)
 zeros_lower u l e b = sym (rw (ne_eqb l 0 e, run_zeros 64 l) at (run_words 0 64 64 u l (omega arith) b))
 
--- the ones, by the zeros of both words complemented
-pub ones_flipped : {z : ℕ} (u l : ℕ) → u < 2 ^ 64 → l < 2 ^ 64 → z ≡ run 0 128 ((18446744073709551615 - u) * 2 ^ 64 + (18446744073709551615 - l)) → z ≡ run 1 128 (u * 2 ^ 64 + l)
-ones_flipped u l a b e = e ∙ sym (rw (flip_words 64 64 u l a b) at (run_flip 128 (u * 2 ^ 64 + l) (whole_below u l a b)))
-
 -- the run at a width, by the run in 128 bits
 pub at_width : {r a z : ℕ} (b n : ℕ) (width : Width) → r ≡ min a z → a ≡ bits width → z ≡ run b 128 n → r ≡ run b (bits width) n
 at_width {r} {a} {z} b n width e f g = go width f
@@ -48,6 +40,14 @@ at_width {r} {a} {z} b n width e f g = go width f
     go Bits32 f = omega (arith, run_min b 32 96 n)
     go Bits128 f = omega (arith, run_min b 128 0 n)
 
+-- the ones are the zeros with all bits the other ones
+pub ones_flipped : {r : ℕ} {m : Halves} (n : ℕ) (width : Width) → n < 2 ^ 128 → m ≡ halves (2 ^ 128 - 1 - n) → r ≡ run 0 (bits width) (whole m) → r ≡ run 1 (bits width) n
+ones_flipped {r} {m} n width b e f = f ∙ ap (run 0 (bits width)) (ap whole e ∙ whole_halves _) ∙ go width
+  where
+    go : (width : Width) → run 0 (bits width) (2 ^ 128 - 1 - n) ≡ run 1 (bits width) n
+    go Bits32 = omega (arith, run_min 0 32 96 (2 ^ 128 - 1 - n), run_min 1 32 96 n, run_flip 128 n b)
+    go Bits128 = sym (run_flip 128 n b)
+
 -- a run fits its width
 pub run_fits : {r a : ℕ} (b n : ℕ) (width : Width) → r ≡ run b (bits width) n → a ≡ bits width → r ≤ a
 run_fits b n width e f = omega (arith, run_le b (bits width) n)
@@ -55,11 +55,6 @@ run_fits b n width e f = omega (arith, run_le b (bits width) n)
 -- and so 128 bits
 pub run_room : {r : ℕ} (b n : ℕ) (width : Width) → r ≡ run b (bits width) n → r ≤ 128
 run_room b n width e = omega (arith, run_le b (bits width) n, bits_le width)
-
--- min keeps all but its zeros
-pub min_kept : {r a : ℕ} (w n : ℕ) → r ≡ run 0 w n → a ≡ w → a - r ≡ kept_min w n
-unfolding kept_min
-min_kept w n e f = omega arith
 
 -- max: there are no ones to cut off
 pub max_none : {r a : ℕ} (w n : ℕ) → r ≡ run 1 w n → a ≡ w → r ≡ 0 → a - r ≡ kept_max w n

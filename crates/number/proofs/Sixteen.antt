@@ -2,19 +2,19 @@
 --     width_octets     both widths are such
 --     sixteen_at       octet k of the sixteen is `octet_at`
 --     octet_lower, octet_upper      an octet of 128 bits in two halves: what the code computes
---     first_short, first_long, first_sixteen       the bits of a width as the first of 128
+--     first_sixteen    the bits of a width as the first of 128 have the octets of the number at that width
 --     Stored       what holds of the octets that a loop has stored.        all_stored     at the end
 use mathlib.Core.Path.{◌≡◌, refl, sym, ap, subst, ◌∙◌}
 use mathlib.Core.List.{List, ◌++◌}
 use mathlib.Core.Logic.{◌⊎◌, inl, inr}
 use Prim.Native.Nat.{ℕ, zero, suc, ◌+◌, ◌-◌, ◌*◌, ◌/◌, ◌%◌, ◌^◌, ◌≤◌, ◌<◌}
-use native.Mathlib.Nat.{mod-lt, mod-eq_of_lt, add-zero, mul-one, mul_assoc, mul-add-mod_self_right}
+use native.Mathlib.Nat.{mod-lt, mul_assoc, mul-add-mod_self_right}
 use native.Mathlib.Omega.{arith}
 use borrow.Author.Tests.{le-ltb, lt-ltb}
 use lib.Pow.{pow_pos, pow-add, high, field, shr_mod, shr-shr, shl-shr, mod-mod-pow}
 use lib.ListN.{length, get_or, replicate, length-append, length-replicate, get_or-append}
 use lib.Seq.{get_or-append-add, ext_get_or}
-use Rattle.number.specs.Halves.{whole, bits}
+use Rattle.number.specs.Halves.{bits}
 use Rattle.number.specs.Octets.{octets, octet_at}
 use Rattle.number.specs.Address.{sixteen, address_of}
 use Rattle.number.specs.declared.address.Address.{Address}
@@ -122,17 +122,7 @@ module _ (u l k : ℕ) (f : k < 16) where
       let e : 120 - 8 * k ≡ 128 - (8 * k + 8) = omega arith in
       p ∙ sym (octet_high 64 u l (120 - 8 * k) b s) ∙ rw e (sym (within 128 (u * 2 ^ 64 + l) k (omega arith)))
 
--- the last bits of a number as the first of 128
-module _ {v : Width} (u l : ℕ) where
-  pub first_short : v ≡ Bits32 → whole (record { upper = l % 4294967296 * 2 ^ 32 % 2 ^ 64; lower = 0 }) ≡ (u * 2 ^ 64 + l) % 2 ^ bits v * 2 ^ (128 - bits v)
-  first_short e =
-      let b : l % 2 ^ 32 * 2 ^ 32 < 2 ^ 64 = omega (arith, mod-lt l (pow_pos 32)) in
-      rw (e, mod-eq_of_lt b, low_mod 64 32 u l (omega arith)) (add-zero (l % 2 ^ 32 * 2 ^ 32 * 2 ^ 64) ∙ mul_assoc (l % 2 ^ 32) (2 ^ 32) (2 ^ 64))
-
-  pub first_long : v ≡ Bits128 → u * 2 ^ 64 + l < 2 ^ 128 → u * 2 ^ 64 + l ≡ (u * 2 ^ 64 + l) % 2 ^ bits v * 2 ^ (128 - bits v)
-  first_long e h = rw (e, mod-eq_of_lt h) (sym (mul-one (u * 2 ^ 64 + l)))
-
--- they have the octets of the number at that width
+-- the bits of a width as the first of 128 have the octets of the number at that width
 module _ (w n k : ℕ) (d : w % 8 ≡ 0) (h : w ≤ 128) (f : k < 16) where
   first_at : octet_at 128 (n % 2 ^ w * 2 ^ (128 - w)) k ≡ octet_at w n k
   first_at = go (below w (8 * k + 8))

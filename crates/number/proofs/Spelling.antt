@@ -1,8 +1,8 @@
 -- The number that octets spell, as the code computes it. Theorems. Assumes nothing.
---     Spelled      the loop's invariant.       start, mul_fits, sum_fits, turn, at_eight       its places, here and in der
+--     Spelled      the loop's invariant.       mul_fits, sum_fits, turn, at_eight       its places, here and in der
 --     array_octets     an array's elements are octets
 --     narrow, broad        the halves of an address of 32 and of 128 bits, by what its octets spell
-use mathlib.Core.Path.{◌≡◌, refl, sym, ap, ap₂, ◌∙◌}
+use mathlib.Core.Path.{◌≡◌, sym, ap, ap₂, ◌∙◌}
 use mathlib.Core.List.{List, [], ◌∷◌}
 use Prim.Native.Nat.{ℕ, zero, suc, ◌+◌, ◌*◌, ◌/◌, ◌%◌, ◌^◌, ◌≤◌, ◌<◌}
 use native.Mathlib.Nat.{lt_of_lt_of_le}
@@ -30,10 +30,6 @@ pub record Spelled (s : List ℕ) (n k : ℕ) : Type 0 where
   pub inside : k ≤ length s
   pub spelt : n ≡ value (take k s)
   pub small : n < 2 ^ (8 * k)
-
--- no octet yet
-pub start : (s : List ℕ) → Spelled s 0 0
-start s = record { eight = omega arith; inside = omega arith; spelt = refl; small = omega arith }
 
 -- one octet more
 value_more : (s : List ℕ) (k : ℕ) → k < length s → value (take (k + 1) s) ≡ value (take k s) * 256 + get_or s k 0

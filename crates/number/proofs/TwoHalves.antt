@@ -1,20 +1,16 @@
 -- Numbers in two halves of 64 bits: stepped, and put together again. (Compared: laws/Orders.) Theorems. Assumes nothing.
 --     halves_whole, whole_halves       two halves and their number, both ways
---     whole_cmp                        two numbers compare as their halves do, the upper ones first
 --     next_below                       a number that is not the last one has its successor after it
 use Prim.Native.Nat.{ℕ, ◌+◌, ◌-◌, ◌*◌, ◌/◌, ◌%◌, ◌<◌, ◌≤◌, ◌^◌}
-use mathlib.Core.Path.{◌≡◌, refl, sym, ap, ap₂, subst, ◌∙◌}
+use mathlib.Core.Path.{◌≡◌, refl, sym, ap, ap₂, ◌∙◌}
 use mathlib.Core.Bool.{Bool, true, false}
 use native.Mathlib.Nat.{div-add-mod', not-le_of_lt}
 use native.Mathlib.Omega.{arith}
 use lib.Arith.{digits_lt}
 use lib.Pow.{high, low, pow-add}
 use borrow.Author.Tests.{eq-eqb, ne_eqb}
-use Rattle.number.specs.Halves.{whole, halves, order, next}
+use Rattle.number.specs.Halves.{whole, halves, next}
 use Rattle.number.specs.declared.halves.Halves.{Halves}
-use Rattle.std.proofs.Common.{Ordering}
-use Rattle.std.specs.Ordering.{nat_cmp}
-use Rattle.std.proofs.lemmas.Grind.{common_steps}
 
 -- two tests that agree both ways
 pub agree : (t u : Bool) → (t ≡ true → u ≡ true) → (t ≡ false → u ≡ false) → t ≡ u
@@ -33,16 +29,6 @@ whole_halves n = div-add-mod' n (2 ^ 64)
 
 pub whole_below : (u l : ℕ) → u < 2 ^ 64 → l < 2 ^ 64 → u * 2 ^ 64 + l < 2 ^ 128
 whole_below u l p q = rw (pow-add 2 64 64) (digits_lt {m = 2 ^ 64} {c = 2 ^ 64} p q)
-
-cmp_whole : (a b : Halves) → a.lower < 2 ^ 64 → b.lower < 2 ^ 64 → nat_cmp (whole a) (whole b) ≡ order a b
-cmp_whole a b p q = grind (arith, common_steps)
-
-lower_fits : (n : ℕ) (a : Halves) → halves n ≡ a → a.lower < 2 ^ 64
-lower_fits n a e = subst (λ (h : Halves). h.lower < 2 ^ 64) e (omega arith)
-
--- two numbers compare as their halves do
-pub whole_cmp : (a b : Halves) (m n : ℕ) → m ≡ whole a → halves m ≡ a → n ≡ whole b → halves n ≡ b → (r : Ordering) → r ≡ nat_cmp m n → r ≡ order a b
-whole_cmp a b m n p f q g r e = e ∙ ap₂ nat_cmp p q ∙ cmp_whole a b (lower_fits m a f) (lower_fits n b g)
 
 -- the last number has both halves full
 last_lower : (u l : ℕ) → l < 2 ^ 64 → u * 2 ^ 64 + l ≡ 2 ^ 128 - 1 → l ≡ 2 ^ 64 - 1

@@ -22,15 +22,21 @@ pub fn zeros(width: Width, n: Halves) -> u32
     width.bits().min(zeros_at_end(n))
 }
 
+// n with each bit the other one.
+fn flipped(n: Halves) -> Halves
+    ensures { result ≡ halves (2 ^ 128 - 1 - whole n) }
+{
+    Halves {
+        upper: u64::MAX - n.upper,
+        lower: u64::MAX - n.lower,
+    }
+}
+
 // Returns the length of the run of ones at the end of the width bits of n: the zeros of both halves complemented.
 pub fn ones(width: Width, n: Halves) -> u32
     ensures { result ≡ spec.run 1 (bits_of width) (whole n) }
 {
-    let flipped = Halves {
-        upper: u64::MAX - n.upper,
-        lower: u64::MAX - n.lower,
-    };
-    width.bits().min(zeros_at_end(flipped))
+    zeros(width, flipped(n))
 }
 
 // x without its last j bits: zeros in their place.
@@ -62,35 +68,12 @@ fn cut(n: Halves, j: u32) -> Halves
     ZERO
 }
 
-// x with ones for its last j bits.
-fn half_filled(x: u64, j: u32) -> u64
-    requires { j < 64 }
-    ensures { result ≡ x / 2 ^ j * 2 ^ j + (2 ^ j - 1) }
-{
-    half_cut(x, j) + ((1u64 << j) - 1)
-}
-
-// n with ones for its last j bits.
+// n with ones for its last j bits: with each bit the other one, zeros in their place.
 fn filled(n: Halves, j: u32) -> Halves
     requires { j ≤ 128 }
     ensures { result ≡ halves (whole n / 2 ^ j * 2 ^ j + (2 ^ j - 1)) }
 {
-    if j < 64 {
-        return Halves {
-            upper: n.upper,
-            lower: half_filled(n.lower, j),
-        };
-    }
-    if j < 128 {
-        return Halves {
-            upper: half_filled(n.upper, j - 64),
-            lower: u64::MAX,
-        };
-    }
-    Halves {
-        upper: u64::MAX,
-        lower: u64::MAX,
-    }
+    flipped(cut(flipped(n), j))
 }
 
 // How many of the width bits are not among the first `kept`.

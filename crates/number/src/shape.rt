@@ -23,25 +23,24 @@ fn is_filled(width: Width, count: u32, low: Halves, high: Halves) -> bool
     high == kept::one_filled(width, count, low)
 }
 
+// The number of bits of the prefix that the numbers from low to high are, or None where they are a range.
+fn prefix(width: Width, low: Halves, high: Halves) -> Option<u32>
+    ensures { result ≡ spec.shape_of (bits_of width) (whole low) (whole high) }
+{
+    let count = width.bits() - free(width, low, high);
+    is_filled(width, count, low, high).then_some(count)
+}
+
 // Returns whether the numbers from low to high are a prefix.
 pub fn is_prefix(width: Width, low: Halves, high: Halves) -> bool
     ensures { result ≡ spec.is_prefix (bits_of width) (whole low) (whole high) }
 {
-    let count = width.bits() - free(width, low, high);
-    is_filled(width, count, low, high)
+    prefix(width, low, high).is_some()
 }
 
 // Returns the number of bits of the prefix that the addresses from low to high are, or None where they are a range. Both are read at the width of low.
 pub fn tell(low: Address, high: Address) -> Option<u32>
     ensures { result ≡ spec.shape_of (bits_of low.width) (number_of low) (number_of high) }
 {
-    let width = low.width;
-    let from = address::to_halves(low);
-    let to = address::to_halves(high);
-    let count = width.bits() - free(width, from, to);
-    if is_filled(width, count, from, to) {
-        Some(count)
-    } else {
-        None
-    }
+    prefix(low.width, address::to_halves(low), address::to_halves(high))
 }

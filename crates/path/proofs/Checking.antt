@@ -1,5 +1,4 @@
 -- What the steps of one certificate answer and leave, by what was found. Assumes nothing.
---     ip_fault, as_fault      the extension follows from the space
 --     lacked_..               the exits of `lacked`
 --     hold_..                 the exits of `hold`;   inherits_..   of `inherit`
 --     read_again              rows that were read are replaced by those after inheritance
@@ -21,7 +20,7 @@ use Rattle.table.specs.Sizes.{max_rows, table_numbers}
 use Rattle.table.specs.Rows.{Row, room, rows_of, rows_in, with_rows}
 use Rattle.table.proofs.laws.Rows.{length-with_rows, rows_written, with_rows_over, cleared_rows}
 use Rattle.der.specs.Parts.{is, isnt}
-use Rattle.values.specs.Limits.{ip_extension, as_extension, as_numbers}
+use Rattle.values.specs.Limits.{ip_extension, as_extension}
 use Rattle.values.specs.declared.readings.Refused.{Refused}
 use Rattle.path.specs.Walk.{Result, covered, missing, walk, replied, walked_of}
 use Rattle.path.specs.Inherit.{resolved, Spaces, all, lacks, lacking, filled_in, inherit, Inherited}
@@ -37,15 +36,6 @@ use Rattle.path.specs.declared.walks.Missing.{Missing}
 -- a refusal in a space
 abbrev pub fault_in : Refusal → ℕ → ℕ → ℕ → Halves → Refused
 fault_in r k extension s v = record { refusal = r; certificate = k; extension = extension; place = 0; space = s; value = v }
-
--- "their extension follows from the space"
-pub ip_fault : (r : Refusal) (k s : ℕ) (v : Halves) → s < as_numbers → fault_in r k ip_extension s v ≡ fault_in r k (extension_of s) s v
-unfolding extension_of
-ip_fault r k s v h = rw (lt-ltb s as_numbers h)
-
-pub as_fault : (r : Refusal) (k s : ℕ) (v : Halves) → as_numbers ≤ s → fault_in r k as_extension s v ≡ fault_in r k (extension_of s) s v
-unfolding extension_of
-as_fault r k s v h = rw (le-ltb s as_numbers h)
 
 -- 13: WHAT THE ISSUER LACKS
 

@@ -1,18 +1,16 @@
 -- The descent: what holds before each certificate, and what each way on from there leaves. Assumes nothing.
---     value_.., after_is, is_carried    the values as `value` and `below` find them
+--     value_.., after_is    the values as `value` finds them
 --     ip_there, ids_there               a certificate is left, so its two values are there
 --     descend_..                        the exits of `descend`
 --     few_pairs, descending             what it hands on to itself
 use mathlib.Core.Path.{◌≡◌, refl, sym, ap, ap₂, subst, ◌∙◌}
-use mathlib.Core.List.{List, [], ◌∷◌}
+use mathlib.Core.List.{List}
 use mathlib.Core.Bool.{true}
 use Prim.Native.Nat.{ℕ, zero, suc, ◌+◌, ◌-◌, ◌*◌, ◌^◌, ◌≤◌, ◌<◌}
 use native.Mathlib.Numerals.{add-one}
 use native.Mathlib.Omega.{arith}
 use lib.ListN.{length, take, drop, length-drop}
 use lib.Seq.{drop-drop}
-use lib.Dec.{ltb}
-use borrow.Author.Tests.{lt-ltb, ne_eqb}
 use Rattle.std.specs.Prelude.{Some, None, Option, Ok, Err}
 use Rattle.number.proofs.Picks.{rest_of}
 use Rattle.table.specs.Sizes.{row_numbers, max_rows, table_numbers}
@@ -68,11 +66,6 @@ module _ (s : List ℕ) (b : Begun s) (n : ℕ) (e : n ≡ length_in s) where
   -- and those after it
   pub after_is : drop n (take (length s - 2) (drop 2 s)) ≡ after_value s
   after_is = rw (rest_of 2 s, there) (drop-drop (length_of s) 2 s)
-
--- whether a value is carried
-pub is_carried : (v : List ℕ) → ltb 0 (length v) ≡ carried v
-is_carried [] = refl
-is_carried (x ∷ v) = rw (lt-ltb 0 (suc (length v)) (omega arith), ne_eqb (suc (length v)) 0 (λ e. omega arith))
 
 -- THE PLACES OF THE TWO TABLES
 

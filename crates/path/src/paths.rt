@@ -36,8 +36,8 @@ fn below(above: Above, ip: &[u8], ids: &[u8], n: usize) -> Above
     Above {
         certificates: above.certificates + 1,
         rows: n,
-        ip: 0 < ip.len(),
-        ids: 0 < ids.len(),
+        ip: !ip.is_empty(),
+        ids: !ids.is_empty(),
     }
 }
 

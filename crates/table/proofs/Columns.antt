@@ -5,23 +5,23 @@
 --     column_read, column_none  a number of a row that the run has, and 0 where it has none
 --     row_columns, row_low, row_high    the columns and the row
 --     put_row, put_none     what `put` leaves
-use mathlib.Core.Path.{◌≡◌, refl, ap, ap₂, ◌∙◌}
-use mathlib.Core.List.{List, [], ◌∷◌, ◌++◌}
+use mathlib.Core.Path.{◌≡◌, refl, sym, ap, ap₂, ◌∙◌}
+use mathlib.Core.List.{List, ◌++◌, append_assoc}
 use mathlib.Core.Bool.{Bool, true, false}
-use Prim.Native.Nat.{ℕ, ◌+◌, ◌*◌, ◌≤◌, ◌<◌, ◌^◌}
+use Prim.Native.Nat.{ℕ, ◌+◌, ◌-◌, ◌*◌, ◌≤◌, ◌<◌, ◌^◌}
 use native.Mathlib.Omega.{arith}
-use lib.ListN.{get_or, take, drop, set}
+use lib.ListN.{get_or, take, drop}
 use lib.Seq.{get_or-drop}
 use borrow.Author.Tests.{lt-ltb, le-ltb}
+use borrow.Rule.Slice.PartMut.{put_mid, Post-is}
 use Rattle.std.specs.Prelude.{ltb}
 use Rattle.number.specs.Tests.{pick}
 use Rattle.number.specs.Halves.{halves}
 use Rattle.number.specs.declared.halves.Halves.{Halves}
 use Rattle.number.proofs.TwoHalves.{halves_whole, whole_halves}
 use Rattle.table.specs.Sizes.{row_numbers}
-use Rattle.table.specs.Rows.{Row, seen, in_halves, numbers, front, nothing, room, column, row_at, with_row}
+use Rattle.table.specs.Rows.{Row, seen, in_halves, row_paper, numbers, front, nothing, room, column, row_at, with_row}
 use Rattle.table.specs.declared.rows.Row as code
-use Rattle.table.proofs.Runs.{stores, stored}
 
 -- a row whose halves are of 64 bits is that of its whole numbers
 pub code_row : (r : code.Row) → r.low.lower < 2 ^ 64 → r.high.lower < 2 ^ 64 → r ≡ in_halves (seen r)
@@ -81,11 +81,11 @@ module _ (t : List ℕ) (n : ℕ) where
     unfolding with_row
     put_none h = rw (le-ltb n (room t) h)
 
-    pub put_row : n < room t → r.low.lower < 2 ^ 64 → r.high.lower < 2 ^ 64
-        → stores (set t (row_numbers * n) r.space) (row_numbers * n) 1 (r.inherit ∷ r.low.upper ∷ r.low.lower ∷ r.high.upper ∷ r.high.lower ∷ [])
-        ≡ with_row t n (seen r)
+    pub put_row : {l : List ℕ} → n < room t → r.low.lower < 2 ^ 64 → r.high.lower < 2 ^ 64 → l ≡ row_paper r
+        → put_mid (row_numbers * n) (row_numbers * n + row_numbers - row_numbers * n) t l ≡ with_row t n (seen r)
     unfolding with_row
-    put_row h p q =
+    put_row h p q e =
+        let rest = Post-is (row_numbers * n) (row_numbers * n + row_numbers) t (omega arith) in
         rw (lt-ltb n (room t) h)
-        (stored t (row_numbers * n) r.space _ (omega arith)
-        ∙ ap (λ (c : code.Row). take (row_numbers * n) t ++ (c.space ∷ c.inherit ∷ c.low.upper ∷ c.low.lower ∷ c.high.upper ∷ c.high.lower ∷ []) ++ drop (row_numbers * n + row_numbers) t) (code_row r p q))
+        (ap₂ (λ (x y : List ℕ). take (row_numbers * n) t ++ (x ++ y)) (e ∙ ap (λ (c : code.Row). row_paper c) (code_row r p q)) rest
+        ∙ sym (append_assoc (take (row_numbers * n) t) (numbers (seen r)) (drop (row_numbers * n + row_numbers) t)))

@@ -1,4 +1,3 @@
-pub mod Runs
 pub mod Columns
 pub mod Listing
 pub mod From

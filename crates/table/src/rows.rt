@@ -3,7 +3,7 @@
 ghost use Rattle.std.specs.Prelude.{◌≡◌, ◌<◌, min};
 ghost use Rattle.number.specs.Halves.{halves};
 ghost use Rattle.table.specs.Sizes.{row_numbers};
-ghost use Rattle.table.specs.Rows.{in_halves, seen, room, column, row_at, with_row, cleared};
+ghost use Rattle.table.specs.Rows.{in_halves, seen, row_paper, room, column, row_at, with_row, cleared};
 
 use number::halves::{Halves, ZERO};
 
@@ -20,6 +20,22 @@ pub struct Row {
     pub inherit: u64,
     pub low: Halves,
     pub high: Halves,
+}
+
+impl Row {
+    // The numbers of the row, in their order.
+    fn numbers(self) -> [u64; ROW]
+        ensures { result ≡ row_paper self }
+    {
+        [
+            self.space,
+            self.inherit,
+            self.low.upper,
+            self.low.lower,
+            self.high.upper,
+            self.high.lower,
+        ]
+    }
 }
 
 // Zeros, which no table has as a row.
@@ -102,12 +118,7 @@ pub fn put(run: &mut [u64], n: usize, row: Row)
         return;
     }
     let at = ROW * n;
-    run[at] = row.space;
-    run[at + 1] = row.inherit;
-    run[at + 2] = row.low.upper;
-    run[at + 3] = row.low.lower;
-    run[at + 4] = row.high.upper;
-    run[at + 5] = row.high.lower;
+    run[at..at + ROW].copy_from_slice(&row.numbers());
 }
 
 // Sets the first `count` numbers of a run to zero, or all of them where it has fewer; the later ones stay.

@@ -2,6 +2,7 @@
 ghost use Rattle.std.specs.Prelude.{◌≡◌};
 ghost use Rattle.table.specs.Spaces as spec;
 
+use crate::kinds::Kind;
 use number::halves::Width;
 
 pub const IPV4: u64 = 1024;
@@ -16,7 +17,7 @@ pub const AS_NUMBERS: u64 = 4096;
 
 pub const ROUTING_DOMAINS: u64 = 5120;
 
-// The kinds of a table, as the writer takes them; MIXED takes rows of both.
+// The numbers of the kinds of a table, as the writer takes them; MIXED takes rows of both.
 pub const MIXED: u64 = 0;
 
 pub const IP: u64 = 1;
@@ -30,16 +31,16 @@ fn between(first: u64, last: u64, space: u64) -> bool
     (first..=last).contains(&space)
 }
 
-// Returns the kind of a space: IP or AS, or 0 where there is no such space.
-pub fn kind(space: u64) -> u64
-    ensures { result ≡ spec.kind_of space }
+// Returns the kind of a space, or None where there is no such space.
+pub fn kind(space: u64) -> Option<Kind>
+    ensures { spec.kind_paper result ≡ spec.kind_of space }
 {
     if between(IPV4, IPV4_LAST, space) || between(IPV6, IPV6_LAST, space) {
-        IP
+        Some(Kind::Ip)
     } else if space == AS_NUMBERS || space == ROUTING_DOMAINS {
-        AS
+        Some(Kind::As)
     } else {
-        0
+        None
     }
 }
 

@@ -2,8 +2,10 @@
 ghost use Rattle.std.specs.Prelude.{◌≡◌};
 ghost use Rattle.number.specs.Halves.{whole};
 ghost use Rattle.table.specs.Rows.{seen};
+ghost use Rattle.table.specs.Spaces.{kind_number};
 ghost use Rattle.table.specs.Tables as spec;
 
+use crate::kinds::Kind;
 use crate::rows::Row;
 use crate::{rows, spaces};
 use number::halves;
@@ -20,10 +22,10 @@ fn fits(width: Width, n: Halves) -> bool
 }
 
 // Whether a table of the kind takes rows of the kind `own`.
-fn takes(kind: u64, own: u64) -> bool
-    ensures { result ≡ spec.takes kind own }
+fn takes(kind: u64, own: Kind) -> bool
+    ensures { result ≡ spec.takes kind (kind_number own) }
 {
-    kind == spaces::MIXED || kind == own
+    kind == spaces::MIXED || kind == u64::from(own)
 }
 
 // Whether low and high are as the row's mark says: zeros where it inherits, else in order and not above the width.
@@ -40,8 +42,10 @@ fn marked(row: Row) -> bool
 fn proper(kind: u64, row: Row) -> bool
     ensures { result ≡ spec.proper kind (seen row) }
 {
-    let own = spaces::kind(row.space);
-    own != 0 && takes(kind, own) && marked(row)
+    let Some(own) = spaces::kind(row.space) else {
+        return false;
+    };
+    takes(kind, own) && marked(row)
 }
 
 // Whether a row may come after another: a higher space, or in the same space more than 1 past it, where neither inherits.

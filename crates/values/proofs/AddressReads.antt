@@ -1,5 +1,5 @@
 -- What the code of `addresses` finds at each of its ends, in the terms of the definitions. Theorems. Assumes nothing.
---     Strung, bits_..      `bits_at`.      prefix_..       `prefix_row` and `prefix_at`.
+--     Strung, bits_..      `bits_at`.      prefix_..       `prefix_at`.
 --     ranged_..        `range_row`.        range_..        `range_at`
 use mathlib.Core.Path.{◌≡◌, refl, sym, ap, ◌∙◌}
 use mathlib.Core.List.{List}
@@ -108,11 +108,6 @@ module _ {r : Taken begun.Start} (w : ℕ) (s : List ℕ) (p : bits_seen s r ≡
     -- bits
     bits_is : Strung w s b.bits b.address k
     bits_is = let (y, (l, m)) = rw h at i in record { ends = record { told = rw h at p; some = l; inside = m }; below = y }
-
--- the row of a prefix
-pub prefix_made : {v : Width} {high : Halves} (a n : ℕ) (low : Halves) → v ≡ width_of a → high ≡ halves (one_filled (bits v) n (whole low)) → low.lower < 2 ^ 64
-    → ◌≡◌ {A = Row} (record { space = a; inherit = 0; low = low; high = high }) (in_halves (listed_row a (whole low, one_filled (across a) n (whole low))))
-prefix_made a n low e p l = row_made a (whole low) (one_filled (across a) n (whole low)) (halves_whole low l) (rw e at p)
 
 -- the ends of `prefix_at`
 module _ {v : Width} {r : Taken begun.Start} (a : ℕ) (s : List ℕ) (e : v ≡ width_of a) (p : bits_seen s r ≡ bits_at (bits v) s) (i : BitsIn (bits v) (length s) r) where

@@ -13,7 +13,7 @@ use lib.Pow.{pow_pos, pow-lt, pow-add, split, high, low, shl-shr, mod-pow-add, o
 use borrow.Author.Tests.{lt-ltb, eq-eqb, ne_eqb, eqb-false, not-true}
 use Rattle.number.specs.Kept.{run, kept_min, lost_max, kept_max, one_filled}
 use Rattle.number.specs.Shape.{free, is_prefix}
-use Rattle.number.proofs.Cuts.{unit_is, unit_pos, fill_below}
+use Rattle.number.proofs.Cuts.{unit_is, fill_below}
 use Rattle.number.proofs.Picks.{below}
 use Rattle.number.proofs.laws.Runs.{run_to, run_from}
 use Rattle.values.specs.Forms.{span, ranged}
@@ -68,15 +68,9 @@ module _ (n x : ℕ) (p : Leading n x) where
   unit : 1 * 2 ^ (64 - n) % 2 ^ 64 ≡ 2 ^ (64 - n)
   unit = unit_is (64 - n) (omega arith)
 
-  pub filled_some : 1 ≤ 1 * 2 ^ (64 - n) % 2 ^ 64
-  filled_some = unit_pos (64 - n) (omega arith)
-
-  pub filled_is : x + (1 * 2 ^ (64 - n) % 2 ^ 64 - 1) ≡ filled_bits n x
-  filled_is = rw unit refl
-
   -- it is a word
   pub filled_fits : x + (1 * 2 ^ (64 - n) % 2 ^ 64 - 1) < 2 ^ 64
-  filled_fits = omega (arith, filled_is, split x (64 - n), fill_below 64 (64 - n) x (omega arith) p.2)
+  filled_fits = omega (arith, unit, split x (64 - n), fill_below 64 (64 - n) x (omega arith) p.2)
 
 -- j bits at the end that are all b, and another before them
 run_is : (b w n j : ℕ) → b < 2 → j ≤ w → n % 2 ^ j ≡ b * (2 ^ j - 1) → (n / 2 ^ j % 2 ≡ b → ⊥) → run b w n ≡ j

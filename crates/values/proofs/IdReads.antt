@@ -31,7 +31,7 @@ use Rattle.values.proofs.BriefReads.{brief_long, brief_tag, brief_least, brief_m
 use Rattle.values.proofs.laws.Elements.{integer_laws, pair_laws, number_size, pair_size}
 use Rattle.der.specs.Opening.{Opening}
 use Rattle.std.specs.Prelude.{Result, Ok, Err}
-use Rattle.std.specs.Prelude.{Option, Some, None}
+use Rattle.std.specs.Prelude.{Option, Some, None, MatchOption}
 use Rattle.values.specs.Faults.{Taken}
 
 -- a row is not none
@@ -98,6 +98,11 @@ module _ (s : List ℕ) (x k : ℕ) (p : BriefNumber s (Some (x, k))) where
       let (l, m, f) = p in
       let i : length (take k s) ≤ 19 = rw f.1 (number_size x) in
       omega (arith, length-take k s)
+
+-- and so an INTEGER, where what is not brief is one by N
+pub brief_or : {N : Type 0} (s : List ℕ) (r : Taken ℕ) (o : Option (ℕ × ℕ)) → BriefNumber s o → (N → integer_seen s r ≡ integer_at s) → MatchOption o N (λ x. r ≡ Ok x) → integer_seen s r ≡ integer_at s
+brief_or s r (Some (x, k)) b f m = rw m (brief_took s x k b).told
+brief_or s r None b f m = f m
 
 -- two of them, the second right after the first
 module _ (s : List ℕ) (x k : ℕ) (p : BriefNumber (take (length s - 2) (drop 2 s)) (Some (x, k))) (y j : ℕ)

@@ -83,10 +83,7 @@ fn integer_at(s: &[u8]) -> Taken<u32>
     ensures seen { integer_seen s.now result ≡ spec.integer_at s.now }
     ensures inside { IntegerIn (length s.now) result }
 {
-    match brief_number(s) {
-        Some(taken) => Ok(taken),
-        None => any_integer_at(s),
-    }
+    brief_number(s).map_or_else(|| any_integer_at(s), Ok)
 }
 
 // The range that s begins with, by its head and its contents. Not by `integer_at`: where both are brief, `pair_at` has taken them.
@@ -120,10 +117,7 @@ fn pair_at(s: &[u8]) -> Taken<(u32, u32)>
     ensures seen { pair_at_seen s.now result ≡ spec.pair_at s.now }
     ensures inside { PairAtIn (length s.now) result }
 {
-    match brief_pair(s) {
-        Some(taken) => Ok(taken),
-        None => any_pair_at(s),
-    }
+    brief_pair(s).map_or_else(|| any_pair_at(s), Ok)
 }
 
 // The row of the identifier that s begins with.

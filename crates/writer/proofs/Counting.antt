@@ -1,4 +1,4 @@
--- The loop of `families::size`: the octets behind the heads of the open list are counted. Assumes nothing.
+-- The loop of `OneKind::size`: the octets behind the heads of the open list are counted. Assumes nothing.
 use mathlib.Core.Path.{◌≡◌, sym, ap}
 use mathlib.Core.List.{List, ◌++◌}
 use Prim.Native.Nat.{ℕ, ◌+◌, ◌-◌, ◌≤◌, ◌<◌}

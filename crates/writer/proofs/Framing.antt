@@ -19,8 +19,8 @@ use Rattle.der.specs.Written.{written, head_written}
 use Rattle.der.proofs.laws.Heads.{head_size_lem, head_few}
 use Rattle.der.proofs.laws.Writing.{head_written_lem}
 use Rattle.values.specs.Encode.{row_octets, group_heads}
-use Rattle.writer.specs.Writer.{list_most, choice_most, heads_most, element_size, Lists}
-use Rattle.writer.specs.Families.{Own, Opened, Upto, frame, size_in, is_of, open_heads, joins, closing, own, onward}
+use Rattle.writer.specs.Writer.{list_most, choice_most, heads_most, element_size}
+use Rattle.writer.specs.Families.{Opened, Upto, frame, size_in, is_of, open_heads, joins, closing, own, onward}
 use Rattle.writer.specs.declared.families.Open.{Open}
 use Rattle.writer.proofs.laws.Groups.{heads_few}
 use Rattle.writer.proofs.laws.Families.{frame_size, inherit_is}
@@ -186,9 +186,6 @@ module _ (kind : ℕ) (r : Row) where
   -- counted
   pub own_inherit : {m : ℕ} → r.inherit ≡ 1 → m ≡ length (frame kind r.space SEQUENCE 0) → m ≡ length (own kind r)
   own_inherit e h = by_size (inherits_is e) (h ∙ frame_size kind r.space SEQUENCE 0 ∙ sym (frame_size kind r.space NULL 0))
-
-  pub own_lists : Own kind r → (r.inherit ≡ 1 → ⊥) → Lists kind r
-  own_lists o n = o.lists n
 
   pub own_element : {m : ℕ} → (r.inherit ≡ 1 → ⊥) → m ≡ length (row_octets kind r) → m ≡ length (own kind r)
   own_element n h = by_size (lists_is n) h

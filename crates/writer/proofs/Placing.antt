@@ -1,4 +1,4 @@
--- Octets written in front of others, and the loop of `families::put`. Assumes nothing.
+-- Octets written in front of others, and the loop of `Backwards::families`. Assumes nothing.
 --     upto_none, upto_on        nothing, and one part in front of another
 --     Placed      the octets behind the heads of the open list are written.       place_start, place_turn, place_end       before the loop, after a row, after the loop
 use mathlib.Core.Path.{◌≡◌, sym, ap, ◌∙◌}

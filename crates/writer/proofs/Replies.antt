@@ -1,6 +1,6 @@
 -- The replies of `write`, in the order of its tests. Assumes nothing.
 --     encode_is      the value of a table is its families in a SEQUENCE
---     reply_..       what each exit of `write` gives.       value_..       those of `put_value`
+--     known_..       a kind by its number.       reply_..       what each exit of `write` gives.       value_..       those of `put`
 use mathlib.Core.Path.{◌≡◌, refl, sym, ap, ◌∙◌}
 use mathlib.Core.List.{List, [], ◌∷◌}
 use mathlib.Core.Bool.{Bool, true, false}
@@ -8,11 +8,14 @@ use Prim.Native.Nat.{ℕ, ◌+◌, ◌≤◌, ◌<◌}
 use native.Mathlib.Omega.{arith}
 use lib.ListN.{length}
 use lib.Dec.{eqb}
-use borrow.Author.Tests.{lt-ltb, le-ltb, ne_eqb}
-use Rattle.std.specs.Prelude.{Ok}
+use borrow.Author.Tests.{eqb-true, eqb-false, lt-ltb, le-ltb, ne_eqb}
+use Rattle.std.specs.Prelude.{Result, Ok, Err}
 use Rattle.number.specs.Tests.{pick}
 use Rattle.number.specs.declared.refusal.Refusal.TheVariants as refusal
-use Rattle.table.specs.Spaces.{mixed_kind, ip_kind}
+use Rattle.table.specs.Spaces.{mixed_kind, ip_kind, as_kind, kind_number, kind_told}
+use Rattle.table.specs.declared.kinds.Kind.{Kind}
+use Rattle.table.specs.declared.kinds.UnknownKind.{UnknownKind}
+use Rattle.table.proofs.laws.Papers.{number_some, told_was, told_none}
 use Rattle.table.specs.Rows.{room, rows_of}
 use Rattle.table.specs.Tables.{is_table}
 use Rattle.der.specs.Tags.{SEQUENCE}
@@ -48,9 +51,17 @@ module _ (kind : ℕ) where
       go true e = rw (ip_groups e (grouped (rows_of (room t) t)))
       go false e = rw (as_groups e (grouped (rows_of (room t) t)))
 
+-- a kind that was told by its number
+module _ (kind : ℕ) {u : Result Kind UnknownKind} {x : Kind} (e : u ≡ kind_told kind) (f : u ≡ Ok x) where
+  pub known_was : kind_number x ≡ kind
+  known_was = told_was kind x (sym e ∙ f)
+
+  pub known_some : kind ≡ mixed_kind → ⊥
+  known_some m = number_some x (known_was ∙ m)
+
 module _ (kind : ℕ) (t out : List ℕ) where
   -- a mixed table
-  pub reply_mixed : (r : Writing) → kind ≡ mixed_kind → r ≡ refused_as refusal.NotATable 0 → (r, out) ≡ write kind t out
+  reply_mixed : (r : Writing) → kind ≡ mixed_kind → r ≡ refused_as refusal.NotATable 0 → (r, out) ≡ write kind t out
   unfolding write
   reply_mixed r e h = rw (e, h)
 
@@ -70,6 +81,19 @@ module _ (kind : ℕ) (t out : List ℕ) where
       pub reply_value : (r : Writing) (left : List ℕ) → d ≡ false → (r, left) ≡ put (element SEQUENCE (families kind t)) out → (r, left) ≡ write kind t out
       unfolding write
       reply_value r left f h = rw (ne_eqb kind mixed_kind n, sym p ∙ e, sym q ∙ f, encode_is kind t) h
+
+  -- a number of no kind
+  beyond : as_kind < kind → false ≡ is_table kind t
+  unfolding is_table
+  beyond h = rw (lt-ltb as_kind kind h)
+
+  pub reply_unknown : (u : Result Kind UnknownKind) → u ≡ kind_told kind → ((x : Kind) → u ≡ Ok x → ⊥) → (r : Writing) → r ≡ refused_as refusal.NotATable 0 → (r, out) ≡ write kind t out
+  reply_unknown (Ok x) e n r h = absurd (n x refl)
+  reply_unknown (Err x) e n r h = go (eqb kind mixed_kind) refl
+    where
+      go : (b : Bool) → eqb kind mixed_kind ≡ b → (r, out) ≡ write kind t out
+      go true p = reply_mixed r (eqb-true kind mixed_kind p) h
+      go false p = let m = eqb-false kind mixed_kind p in reply_none m (beyond (told_none kind x (sym e) m)) r refl h
 
   -- THE VALUE
   module _ {inner size : ℕ} (i : inner ≡ length (families kind t)) (s : size ≡ element_size inner) where

@@ -8,7 +8,7 @@ mod families;
 ghost use Rattle.std.specs.Prelude.{◌≡◌, ◌+◌, ◌^◌, ◌<◌, ◌≤◌, ◌++◌, length};
 ghost use Rattle.number.specs.Halves.{whole, bits as bits_of};
 ghost use Rattle.table.specs.Rows.{seen};
-ghost use Rattle.table.specs.Spaces.{ip_kind, kind_of, width_of};
+ghost use Rattle.table.specs.Spaces.{ip_kind, kind_number, kind_of, width_of};
 ghost use Rattle.der.specs.Tags.{BIT_STRING, INTEGER, OCTET_STRING, SEQUENCE};
 ghost use Rattle.der.specs.Head.{element};
 ghost use Rattle.der.specs.Bits.{bits_of as bit_octets};
@@ -23,6 +23,7 @@ pub use families::write;
 use number::halves::{Halves, Width};
 use number::refusal::Refusal;
 use number::{address, kept, shape};
+use table::kinds::Kind;
 use table::rows::Row;
 use table::spaces;
 use values::readings::Refused;
@@ -65,6 +66,7 @@ struct Bits {
 
 impl Bits {
     // Writes their BIT STRING at a place.
+    #[inline]
     fn put(self, out: &mut [u8], at: usize)
         requires { at + length (element BIT_STRING (bit_octets (bits_of self.width) self.count (whole self.address))) ≤ length out.old }
         ensures { out.new ≡ written out.old at (element BIT_STRING (bit_octets (bits_of self.width) self.count (whole self.address))) }
@@ -105,6 +107,7 @@ struct Span {
 
 impl Span {
     // Those of a row that lists addresses.
+    #[inline]
     fn of(row: Row) -> Span
         requires { spec.Lists ip_kind (seen row) }
         ensures { (result.width ≡ width_of row.space) × (result.low ≡ row.low) × (result.high ≡ row.high) }
@@ -117,6 +120,7 @@ impl Span {
     }
 
     // The bits that its element keeps.
+    #[inline]
     fn form(self) -> Form
         ensures { result ≡ spec.form_seen (form_of (bits_of self.width) (whole self.low) (whole self.high)) }
     {
@@ -133,6 +137,7 @@ impl Span {
     }
 
     // The first n bits of the lowest address.
+    #[inline]
     fn low_bits(self, n: u32) -> Bits
         requires { n ≤ bits_of self.width }
         ensures { (result.width ≡ self.width) × (result.count ≡ n) × (result.address ≡ self.low) }
@@ -145,6 +150,7 @@ impl Span {
     }
 
     // How many octets its element has.
+    #[inline]
     fn size(self) -> usize
         ensures { (result ≡ length (address_octets (bits_of self.width) (whole self.low, whole self.high))) × (result ≤ spec.row_most) }
     {
@@ -157,6 +163,7 @@ impl Span {
     }
 
     // Writes its element at a place.
+    #[inline]
     fn put(self, out: &mut [u8], at: usize)
         requires { at + length (address_octets (bits_of self.width) (whole self.low, whole self.high)) ≤ length out.old }
         ensures { out.new ≡ written out.old at (address_octets (bits_of self.width) (whole self.low, whole self.high)) }
@@ -194,6 +201,7 @@ struct Ids {
 
 impl Ids {
     // Those of a row that lists numbers of 32 bits.
+    #[inline(always)]
     fn of(row: Row) -> Ids
         requires { (whole row.low ≤ whole row.high) × (whole row.high < 2 ^ 32) }
         ensures { (result.low ≡ whole row.low) × (result.high ≡ whole row.high) }
@@ -205,6 +213,7 @@ impl Ids {
     }
 
     // How many octets their element has.
+    #[inline(always)]
     fn size(self) -> usize
         ensures { (result ≡ length (id_octets (self.low, self.high))) × (result ≤ spec.row_most) }
     {
@@ -216,6 +225,7 @@ impl Ids {
     }
 
     // Writes their element at a place.
+    #[inline(always)]
     fn put(self, out: &mut [u8], at: usize)
         requires { at + length (id_octets (self.low, self.high)) ≤ length out.old }
         ensures { out.new ≡ written out.old at (id_octets (self.low, self.high)) }
@@ -233,25 +243,37 @@ impl Ids {
     }
 }
 
-fn row_size(kind: u64, row: Row) -> usize
-    requires { spec.Lists kind (seen row) }
-    ensures { (result ≡ length (row_octets kind (seen row))) × (result ≤ spec.row_most) }
-{
-    if kind == spaces::IP {
-        return Span::of(row).size();
-    }
-    Ids::of(row).size()
+// A row that lists numbers of its space's width, in a table of the kind.
+#[derive(Clone, Copy)]
+struct Listed {
+    kind: Kind,
+    row: Row,
+    ghost lists: { spec.Lists (kind_number kind) (seen row) },
 }
 
-fn put_row(out: &mut [u8], at: usize, kind: u64, row: Row)
-    requires { spec.Lists kind (seen row) × (at + length (row_octets kind (seen row)) ≤ length out.old) }
-    ensures { out.new ≡ written out.old at (row_octets kind (seen row)) }
-{
-    if kind == spaces::IP {
-        Span::of(row).put(out, at);
-        return;
+impl Listed {
+    // How many octets its element has.
+    #[inline(always)]
+    fn size(self) -> usize
+        ensures { (result ≡ length (row_octets (kind_number self.kind) (seen self.row))) × (result ≤ spec.row_most) }
+    {
+        match self.kind {
+            Kind::Ip => Span::of(self.row).size(),
+            Kind::As => Ids::of(self.row).size(),
+        }
     }
-    Ids::of(row).put(out, at);
+
+    // Writes its element at a place.
+    #[inline(always)]
+    fn put(self, out: &mut [u8], at: usize)
+        requires { at + length (row_octets (kind_number self.kind) (seen self.row)) ≤ length out.old }
+        ensures { out.new ≡ written out.old at (row_octets (kind_number self.kind) (seen self.row)) }
+    {
+        match self.kind {
+            Kind::Ip => Span::of(self.row).put(out, at),
+            Kind::As => Ids::of(self.row).put(out, at),
+        }
+    }
 }
 
 // How many octets an addressFamily has: an AFI, and a SAFI or none.
@@ -262,18 +284,6 @@ fn space_size(space: u64) -> usize
         return 2;
     }
     3
-}
-
-// How many octets stand in a family, or in a member, before its choice of so many octets.
-fn heads_size(kind: u64, space: u64, choice: usize) -> usize
-    requires { choice ≤ spec.choice_most }
-    ensures { (result ≡ length (group_heads kind space choice)) × (result ≤ spec.group_most) }
-{
-    if kind == spaces::IP {
-        let first = element_size(space_size(space));
-        return heads::head_size(first + choice) + first;
-    }
-    heads::head_size(choice)
 }
 
 fn octet(x: u64) -> u8
@@ -297,20 +307,46 @@ fn put_space(out: &mut [u8], at: usize, space: u64)
     der::writing::put(out, at + 2, &[0, afi, octet(space % 1024 - 1)]);
 }
 
-// Writes what stands in a family, or in a member, before its choice of so many octets.
-fn put_heads(out: &mut [u8], at: usize, kind: u64, space: u64, choice: usize)
-    requires { (kind_of space ≡ kind) × (choice ≤ spec.choice_most) × (at + length (group_heads kind space choice) ≤ length out.old) }
-    ensures { out.new ≡ written out.old at (group_heads kind space choice) }
-{
-    if kind == spaces::IP {
-        let all = element_size(space_size(space)) + choice;
-        heads::put_head(out, at, tags::SEQUENCE, all);
-        put_space(out, at + heads::head_size(all), space);
-        return;
+// A family, or a member, by its kind, its space, and how many octets its choice has.
+#[derive(Clone, Copy)]
+struct Group {
+    kind: Kind,
+    space: u64,
+    choice: usize,
+    ghost few: { choice ≤ spec.choice_most },
+}
+
+impl Group {
+    // How many octets stand before the choice.
+    #[inline]
+    fn heads_size(self) -> usize
+        ensures { (result ≡ length (group_heads (kind_number self.kind) self.space self.choice)) × (result ≤ spec.group_most) }
+    {
+        match self.kind {
+            Kind::Ip => {
+                let first = element_size(space_size(self.space));
+                heads::head_size(first + self.choice) + first
+            }
+            Kind::As => heads::head_size(self.choice),
+        }
     }
-    if space == spaces::AS_NUMBERS {
-        heads::put_head(out, at, limits::ASNUM, choice);
-        return;
+
+    // Writes what stands before the choice, at a place.
+    #[inline]
+    fn put_heads(self, out: &mut [u8], at: usize)
+        requires { (kind_of self.space ≡ kind_number self.kind) × (at + length (group_heads (kind_number self.kind) self.space self.choice) ≤ length out.old) }
+        ensures { out.new ≡ written out.old at (group_heads (kind_number self.kind) self.space self.choice) }
+    {
+        match self.kind {
+            Kind::Ip => {
+                let all = element_size(space_size(self.space)) + self.choice;
+                heads::put_head(out, at, tags::SEQUENCE, all);
+                put_space(out, at + heads::head_size(all), self.space);
+            }
+            Kind::As if self.space == spaces::AS_NUMBERS => {
+                heads::put_head(out, at, limits::ASNUM, self.choice);
+            }
+            Kind::As => heads::put_head(out, at, limits::RDI, self.choice),
+        }
     }
-    heads::put_head(out, at, limits::RDI, choice);
 }

@@ -9,6 +9,9 @@ use Rattle.table.proofs.rows.get.Reads as get
 use Rattle.table.proofs.rows.put.Reads as put
 use Rattle.table.proofs.rows.clear.Reads as clear
 use Rattle.table.proofs.spaces.kind.Reads as kind
+use Rattle.table.proofs.kinds.U64FromKind.from.Reads as number
+use Rattle.table.proofs.kinds.KindTryFromU64.try_from.Reads as told
+use Rattle.table.proofs.laws.Papers.{kind_apart}
 use Rattle.table.proofs.spaces.width.Reads as width
 use Rattle.table.proofs.tables.is_table.Reads as is_table
 
@@ -44,9 +47,17 @@ put_one_reply κs a r r' s s' p q = one_reply p q
 pub clear_one_reply : OneReply clear.Post (λ κs r s. s.0.now)
 clear_one_reply κs a r r' s s' p q = one_reply p q
 
+-- kinds::Kind: `u64::from`
+pub number_one_reply : OneReply number.Post (λ κs r s. r)
+number_one_reply κs a r r' s s' p q = one_reply p q
+
+-- kinds::Kind: `Kind::try_from`
+pub told_one_reply : OneReply told.Post (λ κs r s. r)
+told_one_reply κs a r r' s s' p q = one_reply p q
+
 -- spaces::kind
 pub kind_one_reply : OneReply kind.Post (λ κs r s. r)
-kind_one_reply κs a r r' s s' p q = one_reply p q
+kind_one_reply κs a r r' s s' p q = kind_apart r r' (one_reply p q)
 
 -- spaces::width
 pub width_one_reply : OneReply width.Post (λ κs r s. r)

@@ -1,11 +1,8 @@
 -- `der::bits::padded` meets its contract. Assumes nothing.
 use borrow.Author.Rules.{rules}
-use Rattle.number.proofs.Spelling.{start, mul_fits, sum_fits}
+use Rattle.number.proofs.Spelling.{mul_fits, sum_fits}
 use Rattle.der.proofs.Padding.{pad_turn, pad_done}
 use Rattle.der.proofs.bits.padded.Goals as goal
-
-pub loop-k-init : goal.loop-k-init
-loop-k-init c = search (start, rules)
 
 pub overflow_mul-n : goal.overflow_mul-n
 overflow_mul-n c = search (mul_fits, rules)

@@ -1,7 +1,8 @@
 -- `number::kept::ones` meets its contract. Assumes nothing.
-use borrow.Author.Rules.{rules}
-use Rattle.number.proofs.Ends.{at_width, ones_flipped}
+use Rattle.std.proofs.Common.{rules}
+use Rattle.number.proofs.TwoHalves.{whole_below}
+use Rattle.number.proofs.Ends.{ones_flipped}
 use Rattle.number.proofs.kept.ones.Goals as goal
 
 pub returns : goal.returns
-returns c = search (at_width, ones_flipped, rules)
+returns c = search (ones_flipped, whole_below, rules)

@@ -11,3 +11,7 @@ returns-then-takes c = grind (arith, common_steps)
 pub returns-else-takes : goal.returns-else-takes
 unfolding proper
 returns-else-takes c = grind (arith, common_steps)
+
+pub returns-in_default : goal.returns-in_default
+unfolding proper
+returns-in_default c = grind (arith, common_steps)

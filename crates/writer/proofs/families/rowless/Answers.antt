@@ -1,13 +1,13 @@
 -- `writer::families::rowless` meets its contract. Assumes nothing.
-use borrow.Author.Rules.{rules}
-use Rattle.number.proofs.Picks.{picks}
+use native.Mathlib.Omega.{arith}
+use Rattle.std.proofs.lemmas.Grind.{common_steps}
 use Rattle.writer.specs.Writer.{rowless}
 use Rattle.writer.proofs.families.rowless.Goals as goal
 
-pub returns-then-kind-eq-AS : goal.returns-then-kind-eq-AS
+pub returns-then-eq : goal.returns-then-eq
 unfolding rowless
-returns-then-kind-eq-AS c = search (picks, rules)
+returns-then-eq c = grind (arith, common_steps)
 
-pub returns-else-kind-eq-AS : goal.returns-else-kind-eq-AS
+pub returns-else-eq : goal.returns-else-eq
 unfolding rowless
-returns-else-kind-eq-AS c = search (picks, rules)
+returns-else-eq c = grind (arith, common_steps)
