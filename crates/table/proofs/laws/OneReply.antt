@@ -1,4 +1,6 @@
 -- One reply: two replies that a function's promise allows are equal, and so is what they leave in a lent buffer (`Rattle.number.proofs.laws.OneReply`). Theorems. Assumes nothing.
+use mathlib.Core.Path.{◌≡◌}
+use Prim.Native.Nat.{ℕ, min}
 use Rattle.number.proofs.laws.OneReply.{OneReply, one_reply}
 use Rattle.table.proofs.rows.count.Reads as count
 use Rattle.table.proofs.rows.space.Reads as space
@@ -14,6 +16,10 @@ use Rattle.table.proofs.kinds.KindTryFromU64.try_from.Reads as told
 use Rattle.table.proofs.laws.Papers.{kind_apart}
 use Rattle.table.proofs.spaces.width.Reads as width
 use Rattle.table.proofs.tables.is_table.Reads as is_table
+
+-- the lesser of two counts: the library's `min`, whose promise is `r ≡ min a b`
+pub fewer_one_reply : (a b r r' : ℕ) → r ≡ min a b → r' ≡ min a b → r ≡ r'
+fewer_one_reply a b r r' p q = one_reply p q
 
 -- rows::count
 pub count_one_reply : OneReply count.Post (λ κs r s. r)

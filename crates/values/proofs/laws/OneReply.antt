@@ -186,6 +186,10 @@ rdi_element_one_reply = id_element_one_reply routing_domains rdi_fits
 pub is_brief_one_reply : OneReply is_brief.Post (λ κs r s. r)
 is_brief_one_reply κs a r r' s s' p q = one_reply p q
 
+-- an octet as a wider number: the library's `From`, whose promise is `r ≡ x`
+pub wide_one_reply : (x r r' : ℕ) → r ≡ x → r' ≡ x → r ≡ r'
+wide_one_reply x r r' p q = one_reply p q
+
 -- parts::has_octets
 pub has_octets_one_reply : OneReply has_octets.Post (λ κs r s. r)
 has_octets_one_reply κs a r r' s s' p q = one_reply p q
