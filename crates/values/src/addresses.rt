@@ -11,7 +11,7 @@ ghost use Rattle.values.specs.Choices.{listed_row};
 ghost use Rattle.values.specs.Seen.{bits_seen, BitsIn, bounds_at_seen, BoundsAtIn, ranged_seen, found_seen, FoundIn};
 
 use crate::faults::Taken;
-use crate::{brief_addresses, pairs};
+use crate::{brief_addresses, pair_at};
 use der::{bits, heads, tags};
 use number::halves::{Halves, Width};
 use number::refusal::Refusal;
@@ -66,7 +66,7 @@ fn bounds_at(width: Width, s: &[u8]) -> Taken<(Start, Start)>
     ensures seen { bounds_at_seen s.now result ≡ spec.range_at (bits_of width) s.now }
     ensures inside { BoundsAtIn (bits_of width) (length s.now) result }
 {
-    pairs::pair_at(|part| bits_at(width, part), s)
+    pair_at(|part| bits_at(width, part), s)
 }
 
 // The row of a range, or none where min and max are not its one form: "min must be below max"; min keeps no trailing zero, max no trailing one but the kept one; "a range that is a prefix must be written as a prefix".

@@ -5,10 +5,10 @@ ghost use Rattle.values.specs.Tables.{blocks_rows};
 ghost use Rattle.values.specs.Seen.{space_seen, space_of_seen, SpaceIn};
 ghost use Rattle.values.specs.Into.{CountedInto, FamilyOn};
 
-use crate::choices;
 use crate::counted::Rows;
 use crate::elements::Space;
-use crate::faults::{Fault, Read, Taken, after};
+use crate::faults::{Fault, Read, Taken};
+use crate::{after, choices};
 use der::{heads, readers, strings, tags};
 use number::refusal::Refusal;
 

@@ -6,9 +6,9 @@ ghost use Rattle.values.specs.Choices as spec;
 ghost use Rattle.values.specs.Into.{ChosenOn};
 
 use crate::counted::Rows;
-use crate::elements;
 use crate::elements::Space;
-use crate::faults::{Fault, Read, after};
+use crate::faults::{Fault, Read};
+use crate::{after, elements};
 use der::{heads, strings, tags};
 use number::halves;
 use number::refusal::Refusal;

@@ -9,8 +9,8 @@ ghost use Rattle.values.specs.Seen.{found_seen, FoundIn};
 ghost use Rattle.values.specs.Into.{CountedOn};
 
 use crate::counted::Rows;
-use crate::faults::{Fault, Read, Taken, after};
-use crate::{addresses, ids};
+use crate::faults::{Fault, Read, Taken};
+use crate::{addresses, after, ids};
 use number::halves;
 use number::halves::Halves;
 use number::refusal::Refusal;

@@ -1,6 +1,6 @@
 // What a reader of a part answers: what it read, or a refusal and its place.
-ghost use Rattle.std.specs.Prelude.{◌≡◌, ◌+◌, ◌<◌, ◌^◌, IfErr};
-ghost use Rattle.values.specs.Faults.{at, read_after};
+ghost use Rattle.std.specs.Prelude.{◌≡◌};
+ghost use Rattle.values.specs.Faults.{at};
 ghost use Rattle.number.specs.declared.refusal.Refusal.TheVariants as variants;
 
 use der::integers::BadInteger;
@@ -43,16 +43,5 @@ impl Fault {
         ensures { result ≡ at place refusal }
     {
         Fault { refusal, place }
-    }
-}
-
-// What was read of octets that stand after `n` others: "Place counts octets from the start of the value read."
-pub(crate) fn after<T>(n: usize, read: Read<T>) -> Read<T>
-    requires { IfErr read (λ fault. n + fault.place < 2 ^ 64) }
-    ensures { result ≡ read_after n read }
-{
-    match read {
-        Ok(x) => Ok(x),
-        Err(fault) => Err(Fault::at(n + fault.place, fault.refusal)),
     }
 }

@@ -9,8 +9,8 @@ ghost use Rattle.values.specs.Into.{CountedInto, CountedOn, ChosenOn};
 
 use crate::counted::Rows;
 use crate::elements::Space;
-use crate::faults::{Fault, Read, after};
-use crate::{choices, limits};
+use crate::faults::{Fault, Read};
+use crate::{after, choices, limits};
 use der::{heads, readers, tags};
 use number::refusal::Refusal;
 

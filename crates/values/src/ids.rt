@@ -7,8 +7,8 @@ ghost use Rattle.values.specs.Ids as spec;
 ghost use Rattle.values.specs.Seen.{integer_seen, IntegerIn, pair_at_seen, PairAtIn, range_seen, found_seen, FoundIn};
 ghost use Rattle.values.specs.Briefs.{BriefNumber, BriefPair};
 
+use crate::briefs;
 use crate::faults::Taken;
-use crate::{briefs, pairs};
 use der::{heads, integers, tags};
 use number::address;
 use number::halves::Halves;
@@ -91,7 +91,7 @@ fn any_pair_at(s: &[u8]) -> Taken<(u32, u32)>
     ensures seen { pair_at_seen s.now result ≡ spec.pair_at s.now }
     ensures inside { PairAtIn (length s.now) result }
 {
-    pairs::pair_at(any_integer_at, s)
+    crate::pair_at(any_integer_at, s)
 }
 
 // The range of two brief INTEGERs that s begins with, and how many octets it took.

@@ -1,11 +1,11 @@
--- `values::pairs::pair_at` meets its contract. Assumes nothing.
+-- `values::pair_at` meets its contract. Assumes nothing.
 use native.Mathlib.Omega.{arith}
 use Rattle.std.proofs.Common.{rules}
 use Rattle.der.specs.Tags.{SEQUENCE}
 use Rattle.der.proofs.laws.Heads.{opens}
 use Rattle.values.proofs.Exits.{handed, shifted}
 use Rattle.values.proofs.Joins.{tag_order, tag_inside, tag_place}
-use Rattle.values.proofs.pairs.pair_at.Goals as goal
+use Rattle.values.proofs.pair_at.Goals as goal
 
 pub slice_bounds-pair_of-count : goal.slice_bounds-pair_of-count
 slice_bounds-pair_of-count g c = search (tag_order, rules)

@@ -1,10 +1,10 @@
--- `values::pairs::pair_of` meets its contract. Assumes nothing.
+-- `values::pair_of` meets its contract. Assumes nothing.
 use mathlib.Core.Path.{refl}
 use Rattle.std.proofs.Common.{rules}
 use Rattle.std.proofs.lemmas.Fn.{says_at}
 use Rattle.values.proofs.Exits.{handed, shifted}
 use Rattle.values.proofs.PairReads.{place_left, place_fits}
-use Rattle.values.proofs.pairs.pair_of.Goals as goal
+use Rattle.values.proofs.pair_of.Goals as goal
 
 pub returns-in_err-min-clause-inside : goal.returns-in_err-min-clause-inside
 returns-in_err-min-clause-inside g c = rw (handed _ c.from_residual.ensures.1) (c.requires.bounded c.args.s.now _ (says_at g.F.Fn c.in_err-min.ensures refl))
