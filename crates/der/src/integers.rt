@@ -2,12 +2,10 @@
 ghost use Rattle.std.specs.Prelude.{◌≡◌};
 ghost use Rattle.der.specs.Integer.{padded, integer_of, integer_size, integer_octets};
 ghost use Rattle.der.specs.Written.{written};
-ghost use Rattle.number.specs.declared.refusal.Refusal.TheVariants as variants;
 
 use crate::writing;
 use number::address;
 use number::halves::{Halves, Width};
-use number::refusal::Refusal;
 
 // Why the contents are no INTEGER from 0 to 4,294,967,295.
 #[derive(Clone, Copy, PartialEq, Eq)]
@@ -16,15 +14,6 @@ pub enum BadInteger {
     Negative,
     Padded,
     TooLarge,
-}
-
-// Today each cause is refusal 4.
-impl From<BadInteger> for Refusal {
-    ghost from_gives = { λ _ refusal. refusal ≡ variants.Contents };
-
-    fn from(_cause: BadInteger) -> Refusal {
-        Refusal::Contents
-    }
 }
 
 // Whether the first octet could be left out: it is 0, and the next one does not begin with a set bit.

@@ -1,5 +1,4 @@
 // "A reader holds the value and its place in it and goes on element by element, left to right, outer before inner."
-// Each function over the struct takes it apart and leaves the work to one that takes the value and the place.
 ghost use Rattle.std.specs.Prelude.{◌≡◌};
 ghost use Rattle.der.specs.Opening.{opening_of};
 ghost use Rattle.der.specs.Reader.{element_at, left_at};
@@ -30,38 +29,37 @@ pub fn element_at(value: &[u8], at: usize, tag: u8) -> Opening
 pub fn left_at(value: &[u8], at: usize) -> usize
     ensures { result ≡ left_at value.now at }
 {
-    if value.len() < at {
-        return 0;
+    value.len().saturating_sub(at)
+}
+
+impl<'a> Reader<'a> {
+    // Returns the reader at the start of a value.
+    pub fn new(value: &'a [u8]) -> Reader<'a>
+        ensures { (result.value ≡ value.entry) × (result.at ≡ 0) }
+    {
+        Reader { value, at: 0 }
     }
-    value.len() - at
-}
 
-// Returns the reader at the start of a value.
-pub fn new<'a>(value: &'a [u8]) -> Reader<'a>
-    ensures { (result.value ≡ value.entry) × (result.at ≡ 0) }
-{
-    Reader { value, at: 0 }
-}
+    // Returns what the element of a tag at the reader's place is.
+    pub fn element(self, tag: u8) -> Opening
+        ensures { result ≡ element_at self.entry.value.now self.entry.at tag }
+    {
+        element_at(self.value, self.at, tag)
+    }
 
-// Returns what the element of a tag at the reader's place is.
-pub fn element<'a>(r: Reader<'a>, tag: u8) -> Opening
-    ensures { result ≡ element_at r.entry.value.now r.entry.at tag }
-{
-    element_at(r.value, r.at, tag)
-}
+    // Returns the reader at another place of the same value.
+    pub fn moved(self, at: usize) -> Reader<'a>
+        ensures { (result.value ≡ self.entry.value) × (result.at ≡ at) }
+    {
+        Reader { at, ..self }
+    }
 
-// Returns the reader at another place of the same value.
-pub fn moved<'a>(r: Reader<'a>, at: usize) -> Reader<'a>
-    ensures { (result.value ≡ r.entry.value) × (result.at ≡ at) }
-{
-    Reader { value: r.value, at }
-}
-
-// Returns how many octets are left at the reader's place.
-pub fn left<'a>(r: Reader<'a>) -> usize
-    ensures { result ≡ left_at r.entry.value.now r.entry.at }
-{
-    left_at(r.value, r.at)
+    // Returns how many octets are left at the reader's place.
+    pub fn left(self) -> usize
+        ensures { result ≡ left_at self.entry.value.now self.entry.at }
+    {
+        left_at(self.value, self.at)
+    }
 }
 
 // Returns what the outermost element of a value is, if its tag is `tag`: the one at the place of a new reader.
@@ -69,5 +67,5 @@ pub fn left<'a>(r: Reader<'a>) -> usize
 pub fn outermost(tag: u8, value: &[u8]) -> Opening
     ensures { result ≡ opening_of tag value.now }
 {
-    element(new(value), tag)
+    Reader::new(value).element(tag)
 }

@@ -2,7 +2,7 @@
 --     value_.., after_is    the values as `value` finds them
 --     ip_there, ids_there               a certificate is left, so its two values are there
 --     descend_..                        the exits of `descend`
---     few_pairs, descending             what it hands on to itself
+--     clear_fits, rest_fits, few_pairs, descending  what it hands on to `clear_rest` and to itself
 use mathlib.Core.Path.{◌≡◌, refl, sym, ap, ap₂, subst, ◌∙◌}
 use mathlib.Core.List.{List}
 use mathlib.Core.Bool.{true}
@@ -15,7 +15,7 @@ use Rattle.std.specs.Prelude.{Some, None, Option, Ok, Err}
 use Rattle.number.proofs.Picks.{rest_of}
 use Rattle.table.specs.Sizes.{row_numbers, max_rows, table_numbers}
 use Rattle.table.specs.Rows.{Row, rows_of, rows_in, with_rows, cleared}
-use Rattle.table.proofs.laws.Rows.{length_rows_of}
+use Rattle.table.proofs.laws.Rows.{length_rows_of, length-with_rows}
 use Rattle.der.specs.Parts.{is, isnt}
 use Rattle.values.specs.declared.readings.Refused.{Refused}
 use Rattle.path.specs.Bundle.{length_of, length_in, end_of, on_after, is_values, value_in, after_value, certificates_in}
@@ -98,6 +98,10 @@ module _ {left : ℕ} {rest own : List ℕ} {old : ℕ} {issuer : List ℕ} {abo
   count_theirs : length (rows_in above.rows issuer) ≡ above.rows
   count_theirs = ap length theirs ∙ length_rows_of above.rows issuer
 
+  -- what is to be cleared
+  pub clear_fits : row_numbers * old < 2 ^ 64
+  clear_fits = omega (arith, d.ours.few)
+
   -- no certificate is left: the last one's rows are in the issuer's table
   pub descend_end : left ≡ 0 → (t : List ℕ) → t ≡ cleared (row_numbers * old) own → ◌≡◌ {A = Left} (Ok (record { rows = above.rows; pairs = pairs }), t, issuer) (descended left rest own issuer above pairs)
   unfolding descended descent
@@ -156,6 +160,10 @@ module _ {left : ℕ} {rest own : List ℕ} {old : ℕ} {issuer : List ℕ} {abo
 
           small : Small a t.held
           small = certificate_small a t.held ip ids t.so
+
+          -- the old ones were within the table
+          pub rest_fits : row_numbers * old ≤ length own₁
+          rest_fits = omega (arith, d.ours.few, d.ours.long, ap length t.table ∙ length-with_rows own 0 t.held.0)
 
           -- its pairs are few
           pub few_pairs : more ≤ 2 * max_rows

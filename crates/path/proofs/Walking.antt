@@ -77,6 +77,10 @@ walk_start own issuer n m last end p q f g =
       fits = omega (arith, length-take (row_numbers * last) own, length-take (row_numbers * end) issuer);
     }
 
+-- a run is shorter without its first row
+pub walk_less : (t : List ℕ) → row_numbers ≤ length t → length (take (length t - row_numbers) (drop row_numbers t)) < length t
+walk_less t h = rw (rest_of row_numbers t, length-drop) (omega arith)
+
 module _ {w : Walked} {left held : List ℕ} {pairs : ℕ} (h : Walking w left held pairs) where
   -- no own row is left
   pub walk_end : length left < row_numbers → record { missing = None; pairs = pairs } ≡ walked_of w
@@ -87,6 +91,10 @@ module _ {w : Walked} {left held : List ℕ} {pairs : ℕ} (h : Walking w left h
       ap (λ (k : ℕ). record { missing = None; pairs = k }) e ∙ ap (λ (y : Walked). walked_of y) s
 
   module _ (p : row_numbers ≤ length left) where
+    -- one pair more is a number of the code
+    pub walk_fits : pairs + 1 < 2 ^ 64
+    walk_fits = omega (arith, h.fits)
+
     -- no row of the issuer is left
     pub walk_out : length held < row_numbers → {s : ℕ} {l : Halves} {r : answer.Walked} → s ≡ (row_at left 0).space → l ≡ halves (row_at left 0).low
         → r ≡ record { missing = Some (record { space = s; value = l }); pairs = pairs } → r ≡ walked_of w

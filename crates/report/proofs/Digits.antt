@@ -1,6 +1,6 @@
 -- Digits: how many there are, and the loops of `spell_decimal` and `spell_hex`. Theorems. Assumes nothing.
 --     digit_low, digit_high      a digit as its character
---     Spelled      what is spelled already is at the end of the run
+--     Spelled      what is spelled already is at the end of the run.      spell_start      before the loop
 --     hex_turn, hex_end        a hexadecimal digit more, and all of them
 --     decimal_turn, decimal_last, decimal_end      a decimal digit more, the first one, and as many as the run has
 --     length_hex, length-decimal     how many digits there are
@@ -14,7 +14,7 @@ use native.Mathlib.Omega.{arith}
 use lib.Dec.{eqb}
 use lib.ListN.{length, take, drop, set, length-set, length-drop}
 use lib.Pow.{pow-add, shr-shr, high}
-use lib.Seq.{take_all, drop-cons, drop-set-lt, get_or-set_same}
+use lib.Seq.{take_all, drop-cons, drop-set-lt, get_or-set_same, drop-length}
 use borrow.Author.Tests.{lt-ltb, le-ltb, eq-eqb, ne_eqb}
 use Rattle.number.specs.Tests.{pick}
 use Rattle.report.specs.Text.{glyph, decimal_from, decimal, hex_from, hexadecimal}
@@ -40,6 +40,10 @@ pub record Spelled (digits : ℕ → ℕ → List ℕ → List ℕ) (first : Lis
   pub size : length run ≡ length first
   pub inside : k ≤ length first
   pub is : digits k left (drop k run) ≡ digits (length first) n []
+
+-- before the loop
+pub spell_start : (digits : ℕ → ℕ → List ℕ → List ℕ) (run : List ℕ) (n : ℕ) → Spelled digits run n run (length run) n
+spell_start digits run n = record { size = refl; inside = omega arith; is = ap (digits (length run) n) (drop-length run) }
 
 -- HEXADECIMAL
 

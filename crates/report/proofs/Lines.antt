@@ -1,5 +1,5 @@
 -- The lines of a table's rows: the loop of `rows`, and how long a report is at most. Theorems. Assumes nothing.
---     Lined        the lines of the first k rows are written.        line_start, line_room, line_turn        before the loop, and in it
+--     Lined        the lines of the first k rows are written.        line_same, line_start, line_room, line_turn, line_end        the run keeps its length; before the loop, in it, and after it
 --     ok_most, no_most     both texts fit a run that has room for any report
 use mathlib.Core.Path.{◌≡◌, refl, sym, ap, ◌∙◌}
 use mathlib.Core.List.{List, [], ◌∷◌, ◌++◌, append_assoc, append-nil}
@@ -14,7 +14,7 @@ use Rattle.table.specs.declared.rows.Row as code
 use Rattle.table.proofs.Columns.{row_code}
 use Rattle.table.proofs.laws.Rows.{length_rows_of, rows_split, rows_read}
 use Rattle.values.specs.declared.readings.Refused.{Refused}
-use Rattle.der.proofs.laws.Writing.{written_none}
+use Rattle.der.proofs.laws.Writing.{written_none, length-written}
 use Rattle.report.specs.Text.{decimal, hexadecimal, field, hex_field, row_line, row_lines, ok_text, no_text}
 use Rattle.report.specs.Reports.{put, room_for}
 use Rattle.report.proofs.Digits.{length-decimal, length_hex}
@@ -47,6 +47,10 @@ pub record Lined (out : List ℕ) (at : ℕ) (t : List ℕ) (n : ℕ) (left : Li
   pub inside : k ≤ n
   pub is : ◌≡◌ {A = ℕ × List ℕ} (next, left) (put out at (row_lines (rows_of k t)))
 
+-- the run keeps its length
+pub line_same : {out : List ℕ} {at : ℕ} {t : List ℕ} {n : ℕ} {left : List ℕ} {k next : ℕ} → Lined out at t n left k next → length left ≡ length out
+line_same {out} {at} {t} {n} {left} {k} v = ap (λ (z : ℕ × List ℕ). length z.1) v.is ∙ length-written out at (row_lines (rows_of k t))
+
 -- before the loop
 pub line_start : (out : List ℕ) (at : ℕ) (t : List ℕ) (n : ℕ) → at + length (row_lines (rows_of n t)) ≤ length out → Lined out at t n out 0 at
 unfolding row_lines rows_of
@@ -73,6 +77,10 @@ module _ {out : List ℕ} {at : ℕ} {t : List ℕ} {n : ℕ} {left : List ℕ} 
   -- and it is written
   pub line_turn : {left' : List ℕ} {next' : ℕ} → ◌≡◌ {A = ℕ × List ℕ} (next', left') (put left next (row_line (seen row))) → Lined out at t n left' (k + 1) next'
   line_turn p = record { inside = omega arith; is = rw (lines_read k t (omega arith), line_is) (end (onward along p)) }
+
+-- after it
+pub line_end : {out : List ℕ} {at : ℕ} {t : List ℕ} {n : ℕ} {left : List ℕ} {k next : ℕ} → Lined out at t n left k next → n ≤ k → ◌≡◌ {A = ℕ × List ℕ} (next, left) (put out at (row_lines (rows_of n t)))
+line_end {n = n} {k = k} v h = let i = v.inside in let e : k ≡ n = omega arith in rw e at v.is
 
 -- LENGTHS
 

@@ -1,5 +1,6 @@
 -- Readers made of smaller ones, by what the code says of each part. Theorems. Assumes nothing.
 --     Refused, Took, Isnt      what a reader answers: of the part that s begins with, and of contents. refused, took      the same as a contract has it
+--     clauses     two facts, as the two clauses of a contract
 --     no_tag, tag_order, tag_inside, tag_place     no octets have a tag; where the contents of an element lie
 --     tag_refused, tag_isnt, tag_took      an element by its tag, at each end of its reader
 --     join_first, join_second, join_over, join_both    one part, then another, then nothing
@@ -36,6 +37,10 @@ pub record Took {X : Type 0} (o : Part X Fault) (s : List ℕ) (x : X) (k : ℕ)
 pub record Isnt {X : Type 0} (o : Contents X Fault) (n : ℕ) (f : Fault) : Type 0 where
   pub told : isnt f ≡ o
   pub inside : f.place ≤ n
+
+-- two facts as the clauses of a contract
+pub clauses : {A B C : Type 0} → (A → B → C) → A × B → C
+clauses said p = said p.0 p.1
 
 -- as a contract has them
 pub refused : {X : Type 0} {o : Part X Fault} {n : ℕ} {f : Fault} → Refused o n f → (nopart f ≡ o) × (f.place ≤ n)
