@@ -4,7 +4,9 @@ use Rattle.number.specs.Refusal.{number_of}
 use Rattle.number.specs.declared.refusal.Refusal.TheVariants as refusal
 use Rattle.der.specs.declared.integers.BadInteger.{BadInteger}
 use Rattle.der.specs.declared.integers.BadInteger.TheVariants as integer
-use Rattle.std.specs.Prelude.{Result, Ok, Err}
+use Rattle.std.specs.Prelude.{Option, Some, None, Result, Ok, Err}
+use Rattle.number.specs.Halves.{bits}
+use Rattle.der.specs.declared.bits.BitString.{BitString}
 use Rattle.der.specs.Opening.{Opening}
 
 -- an element: where its contents start and end; or 2 or 3
@@ -19,3 +21,8 @@ integer_paper (Err integer.Empty) = number_of refusal.Contents ∷ 1 ∷ []
 integer_paper (Err integer.Negative) = number_of refusal.Contents ∷ 2 ∷ []
 integer_paper (Err integer.Padded) = number_of refusal.Contents ∷ 3 ∷ []
 integer_paper (Err integer.TooLarge) = number_of refusal.Contents ∷ 4 ∷ []
+
+-- a BIT STRING: how many bits, and the address that they begin, its width and its sixteen octets; or 4
+abbrev pub bit_string_paper : Option BitString → List ℕ
+bit_string_paper (Some string) = 0 ∷ string.count ∷ bits string.address.width ∷ string.address.octets
+bit_string_paper None = number_of refusal.Contents ∷ []

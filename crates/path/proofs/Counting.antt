@@ -21,39 +21,42 @@ use Rattle.path.specs.declared.inherits.Uninherited.TheVariants as uninherited
 
 -- THE ROWS OF A SPACE
 
--- n of the first k rows are of the space
-pub record Counting (t : List ℕ) (s k n : ℕ) : Type 0 where
+-- n of the first k rows are of the space, of m rows that are counted
+pub record Counting (t : List ℕ) (m s k n : ℕ) : Type 0 where
   pub count : n ≡ length (in_space s (rows_of k t))
   pub few : n ≤ k
-  pub upto : k ≤ room t
+  pub upto : k ≤ m
+  pub there : m ≤ room t
 
-pub count_start : (t : List ℕ) (s : ℕ) → Counting t s 0 0
+pub count_start : (t : List ℕ) (m s : ℕ) → m ≤ room t → Counting t m s 0 0
 unfolding rows_of
-count_start t s = record { count = refl; few = omega arith; upto = omega arith }
+count_start t m s h = record { count = refl; few = omega arith; upto = omega arith; there = h }
 
-module _ {t : List ℕ} {s k n : ℕ} (h : Counting t s k n) where
-  pub count_end : room t ≤ k → n ≡ length (in_space s (rows_all t))
-  count_end p = let e : room t ≡ k = omega arith in rw e h.count
+module _ {t : List ℕ} {m s k n : ℕ} (h : Counting t m s k n) where
+  pub count_end : m ≤ k → n ≡ length (in_space s (rows_of m t))
+  count_end p = let e : m ≡ k = omega arith in rw e h.count
 
-  module _ (p : k < room t) (x : ℕ) (e : x ≡ (row_at t k).space) where
+  module _ (p : k < m) (x : ℕ) (e : x ≡ (row_at t k).space) where
     abbrev row : code.Row
     row = in_halves (row_at t k)
 
     -- one more is of the space, or is not
-    pub count_yes : x ≡ s → {i : ℕ} → i ≡ n + 1 → Counting t s (k + 1) i
+    pub count_yes : x ≡ s → {i : ℕ} → i ≡ n + 1 → Counting t m s (k + 1) i
     count_yes y {i} q =
         record {
           count = rw (space_yes k t row (omega arith) refl s (sym e ∙ y), length-append) (omega (arith, h.count, q));
           few = omega arith;
           upto = omega arith;
+          there = h.there;
         }
 
-    pub count_no : (x ≡ s → ⊥) → {i : ℕ} → i ≡ n → Counting t s (k + 1) i
+    pub count_no : (x ≡ s → ⊥) → {i : ℕ} → i ≡ n → Counting t m s (k + 1) i
     count_no y {i} q =
         record {
           count = rw (space_no k t row (omega arith) refl s (λ z. y (e ∙ z))) (q ∙ h.count);
           few = omega arith;
           upto = omega arith;
+          there = h.there;
         }
 
 -- WHETHER A ROW INHERITS

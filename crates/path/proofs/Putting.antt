@@ -6,7 +6,7 @@ use native.Mathlib.Nat.{sub-zero}
 use native.Mathlib.Omega.{arith}
 use lib.ListN.{length, length-append}
 use borrow.Author.Tests.{ne_eqb}
-use Rattle.table.specs.Rows.{Row, seen, in_halves, room, row_at, with_row, rows_of, with_rows, rows_all}
+use Rattle.table.specs.Rows.{Row, seen, in_halves, room, row_at, with_row, rows_of, with_rows}
 use Rattle.table.specs.declared.rows.Row as code
 use Rattle.table.proofs.laws.Rows.{length_with_row, length-with_rows, with_rows-append, with_rows_swap, rows_kept, length_rows_of}
 use Rattle.path.specs.Inherit.{in_space, resolved, Spaces, all, lacks, or_lacks, lacking, replaced, up_to, Filling}
@@ -48,9 +48,9 @@ pub record Placing (o : ℕ × List ℕ) (l : ℕ) (source : List ℕ) (s : ℕ)
   pub there : k ≤ room source
   pub same : length t ≡ l
 
-pub place_start : (source : List ℕ) (s : ℕ) (t : List ℕ) (end : ℕ) → length (in_space s (rows_all source)) ≤ end
-    → Placing (up_to t end (in_space s (rows_all source))) (length t) source s t (room source) end
-place_start source s t end b = record { held = refl; fits = b; there = omega arith; same = refl }
+pub place_start : (source : List ℕ) (s : ℕ) (t : List ℕ) (m end : ℕ) → (m ≤ room source) × (length (in_space s (rows_of m source)) ≤ end)
+    → Placing (up_to t end (in_space s (rows_of m source))) (length t) source s t m end
+place_start source s t m end (a, b) = record { held = refl; fits = b; there = a; same = refl }
 
 module _ {o : ℕ × List ℕ} {l : ℕ} {source : List ℕ} {s : ℕ} {t : List ℕ} {k w : ℕ} (h : Placing o l source s t k w) where
   -- no row is left

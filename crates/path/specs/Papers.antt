@@ -52,3 +52,8 @@ found_paper (Some m) = number_of refusal.NotHeld ∷ m.space ∷ m.value.upper �
 -- the walk: what it found, and the pairs looked at
 abbrev pub walked_paper : Walked → List ℕ
 walked_paper w = found_paper w.missing ++ w.pairs ∷ []
+
+-- an extension that the issuer lacks: 13 and the extension; 0 if there is none
+abbrev pub lacked_paper : Option ℕ → List ℕ
+lacked_paper (Some extension) = number_of refusal.IssuerLacks ∷ extension ∷ []
+lacked_paper None = 0 ∷ 0 ∷ []

@@ -48,7 +48,7 @@ fn count_all(own: &[u64], issuer: &[u64]) -> Result<usize, Uninherited>
         if more == 0 {
             return Err(Uninherited::NoSpace(row.space));
         }
-        total = (total + more).min(rows::ROWS + 1);
+        total = rows::fewer(total + more, rows::ROWS + 1);
     }
     Ok(total)
 }

@@ -138,7 +138,7 @@ impl<'a> Text<'a> {
         self.put(b"\n");
     }
 
-    // The first n rows of a table, a line each.
+    // The rows of a table, a line each.
     fn rows(&mut self, table: &[u64])
         requires { self.old.at + length (text.row_lines (rows_all table.now)) ≤ length self.old.out.now }
         ensures same_run { self.new.out.ghost_name ≡ self.old.out.ghost_name }
@@ -150,7 +150,7 @@ impl<'a> Text<'a> {
     }
 }
 
-// "`ok`, rows, pairs", and a line for each of the first n rows of the table.
+// "`ok`, rows, pairs", and a line for each row of the table.
 fn put_ok(out: &mut [u8], done: Accepted, table: &[u64]) -> usize
     requires { length (text.ok_text done.rows done.pairs (rows_all table.now)) ≤ length out.old }
     ensures { (result, out.new) ≡ put out.old 0 (text.ok_text done.rows done.pairs (rows_all table.now)) }

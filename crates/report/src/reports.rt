@@ -18,7 +18,7 @@ pub fn report(reply: Reply, table: &[u64], out: &mut [u8]) -> usize
     }
     match reply {
         Ok(done) => {
-            let most = rows::count(table, done.rows.min(rows::ROWS));
+            let most = rows::count(table, rows::fewer(done.rows, rows::ROWS));
             crate::put_ok(out, done, &table[..rows::ROW * most])
         }
         Err(fault) => crate::put_no(out, fault),

@@ -1,5 +1,7 @@
 -- The spaces, their kinds and the widths of their numbers. "Space is AFI × 1024, plus 1 + SAFI if a SAFI is present; AS numbers are 4096, routing domain identifiers 5120."
-use Rattle.std.specs.Prelude.{ℕ, Bool, false, leb, eqb, Option, Some, None, Result, Ok, Err}
+use Rattle.std.specs.Prelude.{ℕ, Bool, false, leb, eqb, Option, Some, None, Result, Ok, Err, List, [], ◌∷◌}
+use Rattle.number.specs.Refusal.{number_of}
+use Rattle.number.specs.declared.refusal.Refusal.TheVariants as refusal
 use Rattle.number.specs.Tests.{pick}
 use Rattle.number.specs.declared.halves.Width.{Width}
 use Rattle.number.specs.declared.halves.Width.TheVariants.{Bits32, Bits128}
@@ -49,6 +51,11 @@ kind_paper (Some kind) = kind_number kind
 -- the kind that a number is told as
 abbrev pub kind_told : ℕ → Result Kind UnknownKind
 kind_told n = pick (eqb n ip_kind) (Ok Ip) (pick (eqb n as_kind) (Ok As) (Err (record { 0 = n })))
+
+-- the same in this paper's numbers: the kind's; or 19, and the number that is no kind's
+abbrev pub kind_told_paper : Result Kind UnknownKind → List ℕ
+kind_told_paper (Ok kind) = 0 ∷ kind_number kind ∷ []
+kind_told_paper (Err other) = number_of refusal.NotATable ∷ other.0 ∷ []
 
 -- the width follows the AFI; AS numbers and routing domain identifiers have 32 bits
 unfoldable pub width_of : ℕ → Width

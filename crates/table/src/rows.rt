@@ -46,11 +46,18 @@ pub const NOTHING: Row = Row {
     high: ZERO,
 };
 
+// Returns the lower of two counts.
+pub fn fewer(a: usize, b: usize) -> usize
+    ensures { result ≡ min a b }
+{
+    a.min(b)
+}
+
 // Returns how many of its first n rows a run has: n, or all that fit it.
 pub fn count(run: &[u64], n: usize) -> usize
     ensures { result ≡ min n (room run.now) }
 {
-    n.min(run.len() / ROW)
+    fewer(n, run.len() / ROW)
 }
 
 // The number in a column of row n of a run, or 0 where the run has no row n.
@@ -125,6 +132,6 @@ pub fn put(run: &mut [u64], n: usize, row: Row)
 pub fn clear(run: &mut [u64], count: usize)
     ensures { run.new ≡ cleared count run.old }
 {
-    let n = count.min(run.len());
+    let n = fewer(count, run.len());
     run[..n].fill(0);
 }

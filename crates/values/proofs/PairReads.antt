@@ -1,5 +1,6 @@
--- The code of `pairs`, whatever one part is: where its answers stand, and that they are what the definitions say, if the answers of one part are. Theorems. Assumes nothing.
+-- `pair_of` and `pair_at`, whatever one part is: where its answers stand, and that they are what the definitions say, if the answers of one part are. Theorems. Assumes nothing.
 --     place_left, place_fits      the place of a refusal of what is left after k octets
+--     second_refused, second_over, second_last      the second part: it is refused, octets are left after it, or none
 --     contents_read, range_read      the answers
 use mathlib.Core.Path.{◌≡◌, refl, sym, ap, subst, ◌∙◌}
 use mathlib.Core.List.{List}
@@ -8,7 +9,7 @@ use Prim.Native.Nat.{ℕ, ◌+◌, ◌-◌, ◌^◌, ◌≤◌, ◌<◌}
 use native.Mathlib.Omega.{arith}
 use lib.Dec.{ltb}
 use lib.ListN.{length, take, drop, length-take, length-drop}
-use borrow.Author.Tests.{ltb-true, ltb-false}
+use borrow.Author.Tests.{ltb-true, ltb-false, lt-ltb, le-ltb}
 use Rattle.std.specs.Prelude.{Ok, Err, IfErr}
 use Rattle.number.specs.Tests.{pick}
 use Rattle.number.specs.declared.refusal.Refusal.TheVariants as refusal
@@ -18,7 +19,7 @@ use Rattle.der.specs.Opening.{Opening, opening_of}
 use Rattle.der.specs.Parts.{Contents, Part, tagged}
 use Rattle.der.specs.Parts as parts
 use Rattle.der.proofs.Tagged.{tagged_is}
-use Rattle.values.specs.Faults.{Fault, at, moved, Read, Taken}
+use Rattle.values.specs.Faults.{Fault, at, later, moved, Read, Taken}
 use Rattle.values.specs.Seen.{Within, taken_seen, read_seen, both_seen}
 use Rattle.values.specs.Pairs.{ended, PairOf, Opened, PairAt}
 use Rattle.values.proofs.Joins.{Refused, Took, tag_refused, joined, join_first, join_second, join_over, join_both}
@@ -31,6 +32,24 @@ place_left k p s l h = omega (arith, length-take (length s - k) (drop k s), leng
 pub place_fits : {X : Type 0} (k : ℕ) (s : List ℕ) (r : Taken X) → length s < 2 ^ 64 → k ≤ length s → Within (length (take (length s - k) (drop k s))) r → IfErr r (λ f. k + f.place < 2 ^ 64)
 place_fits k s (Ok p) z l h = tt
 place_fits k s (Err f) z l h = omega (arith, place_left k f.place s l h)
+
+-- the second part, after the first k octets
+module _ {X : Type 0} (One : List ℕ → Taken X → Type 0) (s : List ℕ) (x : X) (k : ℕ) (b : Taken X) (r : Read (X × X)) (h : One s (Ok (x, k))) (g : One (take (length s - k) (drop k s)) b) where
+  rest_read : One (drop k s) b
+  rest_read = subst (λ (z : List ℕ). One z b) (rest_of k s) g
+
+  pub second_refused : (f : Fault) → b ≡ Err f → r ≡ Err (later k f) → PairOf One s r
+  second_refused f e q = (Ok (x, k), h, (b, rest_read, rw e q))
+
+  pub second_over : (y : X) (j : ℕ) → b ≡ Ok (y, j) → j < length (take (length s - k) (drop k s)) → r ≡ Err (at (k + j) refusal.OctetsLeft) → PairOf One s r
+  second_over y j e l q =
+      let u : ltb (k + j) (length s) ≡ true = lt-ltb (k + j) (length s) (omega (arith, l, length-take (length s - k) (drop k s), length-drop k s)) in
+      (Ok (x, k), h, (b, rest_read, rw (e, u) q))
+
+  pub second_last : (y : X) (j : ℕ) → b ≡ Ok (y, j) → length (take (length s - k) (drop k s)) ≤ j → r ≡ Ok (x, y) → PairOf One s r
+  second_last y j e l q =
+      let u : ltb (k + j) (length s) ≡ false = le-ltb (k + j) (length s) (omega (arith, l, length-take (length s - k) (drop k s), length-drop k s)) in
+      (Ok (x, k), h, (b, rest_read, rw (e, u) q))
 
 -- an element, by what was answered of its contents
 ended_seen : {X Y : Type 0} (see : X → Y) (k e : ℕ) (s : List ℕ) (b : Read X) → taken_seen see s (ended k e b) ≡ parts.closed (moved k (read_seen see b)) (drop e s)

@@ -1,4 +1,4 @@
--- Two parts that one reader reads, and nothing after them: what the code of `pairs` answers, by the answers that the reader may give.
+-- Two parts that one reader reads, and nothing after them: what `pair_of` and `pair_at` answer, by the answers that the reader may give.
 use Rattle.std.specs.Prelude.{Ok, Err, ℕ, ◌+◌, ◌-◌, ◌≡◌, List, length, take, drop, ltb}
 use Rattle.number.specs.Tests.{pick}
 use Rattle.number.specs.declared.refusal.Refusal.TheVariants as refusal

@@ -8,6 +8,8 @@ use Rattle.table.specs.declared.rows.Row as code
 use Rattle.values.specs.Faults.{Read, Taken}
 use Rattle.values.specs.Readings.{Reading}
 use Rattle.values.specs.declared.addresses.Start as begun
+use Rattle.values.specs.declared.brief_addresses.Brief.{Brief}
+use Rattle.values.specs.declared.brief_addresses.Span.{Span}
 use Rattle.values.specs.declared.readings.Refused.{Refused}
 
 -- THE NINE NUMBERS OF A REPLY: number (0 if accepted), certificate, extension, place, space, value in halves, rows (the writer: octets), pairs
@@ -95,3 +97,35 @@ chosen_paper (Err f) = number_of f.refusal ∷ f.place ∷ []
 abbrev pub counted_paper : Read ℕ → List ℕ
 counted_paper (Ok n) = 0 ∷ n ∷ []
 counted_paper (Err f) = number_of f.refusal ∷ f.place ∷ []
+
+-- THE STEPS OF THE CODE: 0 alone where there is nothing, or the values; of a test the number of the refusal
+
+-- a row that is pushed; or 11
+abbrev pub pushed_paper : Result (Unit {0}) Refusal → List ℕ
+pushed_paper (Ok u) = 0 ∷ []
+pushed_paper (Err r) = number_of r ∷ []
+
+-- a value that is admitted; or 16 or 1, with all that a refusal names
+abbrev pub admitted_paper : Result (Unit {0}) Refused → List ℕ
+admitted_paper (Ok u) = accepted 0 0
+admitted_paper (Err f) = refused f
+
+-- a brief BIT STRING: the octets that it took, and its bits
+abbrev pub brief_bits_paper : Option (Brief × ℕ) → List ℕ
+brief_bits_paper (Some (b, end)) = 0 ∷ end ∷ b.count ∷ b.bits ∷ []
+brief_bits_paper None = 0 ∷ []
+
+-- a brief element of an address family: the octets that it took, and its numbers
+abbrev pub brief_row_paper : Option (Span × ℕ) → List ℕ
+brief_row_paper (Some (s, end)) = 0 ∷ end ∷ s.low.upper ∷ s.low.lower ∷ s.high.upper ∷ s.high.lower ∷ []
+brief_row_paper None = 0 ∷ []
+
+-- a brief INTEGER: the octets that it took, and its number
+abbrev pub brief_number_paper : Option (ℕ × ℕ) → List ℕ
+brief_number_paper (Some (x, end)) = 0 ∷ end ∷ x ∷ []
+brief_number_paper None = 0 ∷ []
+
+-- a range of two of them: the octets that it took, min and max
+abbrev pub brief_pair_paper : Option ((ℕ × ℕ) × ℕ) → List ℕ
+brief_pair_paper (Some ((min, max), end)) = 0 ∷ end ∷ min ∷ max ∷ []
+brief_pair_paper None = 0 ∷ []

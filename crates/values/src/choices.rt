@@ -1,5 +1,5 @@
 // "NULL (inherit) or a SEQUENCE of at least one element".
-ghost use Rattle.std.specs.Prelude.{◌≡◌};
+ghost use Rattle.std.specs.Prelude.{◌≡◌, IfErr};
 ghost use Rattle.table.specs.Rows.{in_halves};
 ghost use Rattle.values.specs.Spaces.{space_number};
 ghost use Rattle.values.specs.Choices as spec;
@@ -30,6 +30,7 @@ fn inherit_row(space: u64) -> Row
 fn inherit_at(space: u64, s: &[u8], rows: &mut Rows) -> Read<usize>
     ensures same_table { rows.new.table.ghost_name ≡ rows.old.table.ghost_name }
     ensures rows { ChosenOn space s.now rows.old (spec.inherit_at rows.old.count s.now) result rows.new }
+    ensures kept { IfErr result (λ _. rows.new.count ≡ rows.old.count) }
 {
     let (k, end) = heads::open(tags::NULL, s)?;
     if !strings::null(&s[k..end]) {
@@ -44,6 +45,7 @@ fn inherit_at(space: u64, s: &[u8], rows: &mut Rows) -> Read<usize>
 fn list_at(space: Space, s: &[u8], rows: &mut Rows) -> Read<usize>
     ensures same_table { rows.new.table.ghost_name ≡ rows.old.table.ghost_name }
     ensures rows { ChosenOn (space_number space) s.now rows.old (spec.listed_at space rows.old.count s.now) result rows.new }
+    ensures kept { IfErr result (λ _. rows.new.count ≡ rows.old.count) }
 {
     let (k, end) = heads::open(tags::SEQUENCE, s)?;
     let before = rows.count;
@@ -55,11 +57,12 @@ fn list_at(space: Space, s: &[u8], rows: &mut Rows) -> Read<usize>
 }
 
 // Reads the NULL or the list that s begins with into the table, after the rows so far.
-// Returns the octets taken, or the refusal and its place in s.
+// Returns the octets taken, or the refusal and its place in s; the rows are then counted as before.
 #[inline(always)]
 pub fn read(space: Space, s: &[u8], rows: &mut Rows) -> Read<usize>
     ensures same_table { rows.new.table.ghost_name ≡ rows.old.table.ghost_name }
     ensures rows { ChosenOn (space_number space) s.now rows.old (spec.choice_at space rows.old.count s.now) result rows.new }
+    ensures kept { IfErr result (λ _. rows.new.count ≡ rows.old.count) }
 {
     if 0 < s.len() && s[0] == tags::NULL {
         return inherit_at(u64::from(space), s, rows);

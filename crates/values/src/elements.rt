@@ -1,12 +1,13 @@
 // The elements of one list: "an element starts more than 1 after the end of the one before".
-// The functions that lead to the loop over them are inlined (here, in `choices` and in `identifiers`): each kind of list then has a loop of its own, which is faster.
-ghost use Rattle.std.specs.Prelude.{◌≡◌, length, ltb};
+// The functions that lead to the loop over them are inlined (here, in `choices` and in `identifiers`): each kind of list then has a loop of its own, which is faster, and each of identifiers in a function of its own.
+ghost use Rattle.std.specs.Prelude.{◌≡◌, IfErr, length, ltb};
 ghost use Rattle.number.specs.Halves.{whole};
 ghost use Rattle.values.specs.Spaces.{space_number};
 ghost use Rattle.values.specs.Choices.{listed_rows};
 ghost use Rattle.values.specs.Elements as spec;
 ghost use Rattle.values.specs.Seen.{found_seen, FoundIn};
 ghost use Rattle.values.specs.Into.{CountedOn};
+ghost use Rattle.values.specs.declared.elements.Space.TheVariants as variants;
 
 use crate::counted::Rows;
 use crate::faults::{Fault, Read, Taken};
@@ -58,12 +59,12 @@ fn early(at: usize, last: Halves, low: Halves) -> bool
     at != 0 && !halves::past(last, low)
 }
 
-// Reads the elements of s into the table, after the rows so far.
-// Returns the refusal and its place in s, if there is one.
+// The loop over the elements of s, for every kind of list.
 #[inline(always)]
-pub fn read(space: Space, s: &[u8], rows: &mut Rows) -> Read<()>
+fn list(space: Space, s: &[u8], rows: &mut Rows) -> Read<()>
     ensures same_table { rows.new.table.ghost_name ≡ rows.old.table.ghost_name }
     ensures rows { CountedOn (listed_rows (space_number space)) (length s.now) rows.old (spec.elements_of space rows.old.count s.now) result rows.new }
+    ensures kept { IfErr result (λ _. rows.new.count ≡ rows.old.count) }
 {
     // Of its own through the loop: what it counts stays in registers.
     let mut listed = Rows::new(rows.table, rows.count);
@@ -83,4 +84,39 @@ pub fn read(space: Space, s: &[u8], rows: &mut Rows) -> Read<()>
     }
     rows.count = listed.count;
     Ok(())
+}
+
+// The loop over AS numbers. Inlined with all that leads to it, it would have to keep its place in memory.
+#[inline(never)]
+fn as_numbers(s: &[u8], rows: &mut Rows) -> Read<()>
+    ensures same_table { rows.new.table.ghost_name ≡ rows.old.table.ghost_name }
+    ensures rows { CountedOn (listed_rows (space_number variants.AsNumbers)) (length s.now) rows.old (spec.elements_of variants.AsNumbers rows.old.count s.now) result rows.new }
+    ensures kept { IfErr result (λ _. rows.new.count ≡ rows.old.count) }
+{
+    list(Space::AsNumbers, s, rows)
+}
+
+// The loop over routing domain identifiers, in the same way.
+#[inline(never)]
+fn routing_domains(s: &[u8], rows: &mut Rows) -> Read<()>
+    ensures same_table { rows.new.table.ghost_name ≡ rows.old.table.ghost_name }
+    ensures rows { CountedOn (listed_rows (space_number variants.RoutingDomains)) (length s.now) rows.old (spec.elements_of variants.RoutingDomains rows.old.count s.now) result rows.new }
+    ensures kept { IfErr result (λ _. rows.new.count ≡ rows.old.count) }
+{
+    list(Space::RoutingDomains, s, rows)
+}
+
+// Reads the elements of s into the table, after the rows so far.
+// Returns the refusal and its place in s, if there is one; the rows are then counted as before.
+#[inline(always)]
+pub fn read(space: Space, s: &[u8], rows: &mut Rows) -> Read<()>
+    ensures same_table { rows.new.table.ghost_name ≡ rows.old.table.ghost_name }
+    ensures rows { CountedOn (listed_rows (space_number space)) (length s.now) rows.old (spec.elements_of space rows.old.count s.now) result rows.new }
+    ensures kept { IfErr result (λ _. rows.new.count ≡ rows.old.count) }
+{
+    match space {
+        Space::Addresses(_) => list(space, s, rows),
+        Space::AsNumbers => as_numbers(s, rows),
+        Space::RoutingDomains => routing_domains(s, rows),
+    }
 }

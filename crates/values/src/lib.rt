@@ -26,14 +26,13 @@ pub mod limits;
 pub mod parts;
 pub mod readings;
 
-// What was read of octets that stand after `n` others: "Place counts octets from the start of the value read."
+// What was read of octets that stand after `n` others: "Place counts octets from the start of the value read." Each caller shows that the sum fits; where it did not, it would wrap.
 fn after<T>(n: usize, read: Read<T>) -> Read<T>
-    requires { IfErr read (λ fault. n + fault.place < 2 ^ 64) }
-    ensures { result ≡ read_after n read }
+    ensures { IfErr read (λ fault. n + fault.place < 2 ^ 64) → result ≡ read_after n read }
 {
     match read {
         Ok(x) => Ok(x),
-        Err(fault) => Err(Fault::at(n + fault.place, fault.refusal)),
+        Err(fault) => Err(Fault::at(n.wrapping_add(fault.place), fault.refusal)),
     }
 }
 

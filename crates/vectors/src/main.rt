@@ -35,10 +35,13 @@ impl Lent {
 fn main(rt: HostRuntime) {
     let mut lent = Lent {
         room: [0; bundles::MOST_OCTETS + 64],
-        first: [RUBBISH; rows::NUMBERS + 8],
-        second: [RUBBISH; rows::NUMBERS + 8],
+        first: [0; rows::NUMBERS + 8],
+        second: [0; rows::NUMBERS + 8],
         text: [0; report::ROOM],
     };
+    // Filled in place: as parts of the struct's value they would be made beside it first, and take stack twice.
+    lent.first.fill(RUBBISH);
+    lent.second.fill(RUBBISH);
     let mut input = rt.stdin();
     for _ in 0..100000 {
         if lent.next(&rt, &mut input).is_none() {

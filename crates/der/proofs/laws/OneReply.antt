@@ -6,6 +6,7 @@ use Rattle.der.proofs.bits.put.Reads as bits_Put
 use Rattle.der.proofs.heads.open.Reads as open_head
 use Rattle.der.proofs.heads.head_size.Reads as head_size
 use Rattle.der.proofs.heads.put_head.Reads as put_head
+use Rattle.der.proofs.integers.BadIntegerPartialEq.eq.Reads as bad_eq
 use Rattle.der.proofs.integers.read.Reads as integers_read
 use Rattle.der.proofs.integers.octets.Reads as integers_octets
 use Rattle.der.proofs.integers.put.Reads as integers_put
@@ -43,6 +44,10 @@ put_head_one_reply κs a r r' s s' p q = one_reply p q
 -- integers::read
 pub integers_read_one_reply : OneReply integers_read.Post (λ κs r s. r)
 integers_read_one_reply κs a r r' s s' p q = one_reply p q
+
+-- integers::BadInteger: `==`
+pub bad_integer_same_one_reply : OneReply bad_eq.Post (λ κs r s. r)
+bad_integer_same_one_reply κs a r r' s s' p q = one_reply p q
 
 -- integers::octets
 pub integers_octets_one_reply : OneReply integers_octets.Post (λ κs r s. r)

@@ -1,15 +1,22 @@
 -- One reply: two replies that a function's promise allows are equal. Theorems. Assumes nothing.
 --     OneReply         what that says of a promise, which is a function's own `Post`: over lifetimes κs, arguments a, a result r and what stands at exit s. What is compared, the result and the contents of the lent buffers that may be written, is told by a function of r and s
 --     one_reply        the general law
---     NAME_one_reply   for each public function of this crate, and for each comparison of Halves
+--     NAME_one_reply   for each public function of this crate, and for each comparison of its types. `<` and `<=` are the library's functions, whose own promises these are, over any type that has an order
 use mathlib.Core.Path.{◌≡◌, sym, ◌∙◌}
-use mathlib.Core.Bool.{Bool}
-use Rattle.number.specs.declared.halves.Halves.{Halves}
-use Rattle.number.proofs.laws.Orders.{below, at_most}
+use denote.RattleType.{RattleType}
+use denote.Param.Laws.{Laws}
+use mir.Syntax.{Dict}
+use Rattle.std.specs.declared.cmp.PartialEq as equality
+use Rattle.std.specs.declared.cmp.PartialOrd as order
+use Rattle.std.proofs.cmp.PartialOrd.lt.Reads as below
+use Rattle.std.proofs.cmp.PartialOrd.le.Reads as at_most
 use Rattle.number.proofs.address.from_halves.Reads as from_halves
 use Rattle.number.proofs.address.spelled.Reads as spelled
 use Rattle.number.proofs.address.to_halves.Reads as to_halves
+use Rattle.number.proofs.address.AddressPartialEq.eq.Reads as address_eq
 use Rattle.number.proofs.halves.Width.bits.Reads as bits
+use Rattle.number.proofs.halves.WidthPartialEq.eq.Reads as width_eq
+use Rattle.number.proofs.refusal.RefusalPartialEq.eq.Reads as refusal_eq
 use Rattle.number.proofs.halves.U128FromHalves.from.Reads as wide
 use Rattle.number.proofs.halves.HalvesPartialEq.eq.Reads as eq
 use Rattle.number.proofs.halves.HalvesPartialOrd.partial_cmp.Reads as partial_cmp
@@ -59,12 +66,23 @@ wide_one_reply κs a r r' s s' p q = one_reply p.0 q.0
 pub same_one_reply : OneReply eq.Post (λ κs r s. r)
 same_one_reply κs a r r' s s' p q = one_reply p q
 
--- halves::Halves: `<` and `<=`, whose promises are `r ≡ below a b` and `r ≡ at_most a b` (Orders)
-pub below_one_reply : (a b : Halves) (r r' : Bool) → r ≡ below a b → r' ≡ below a b → r ≡ r'
-below_one_reply a b r r' p q = one_reply p q
+-- the same of the address, the width and the refusal
+pub address_same_one_reply : OneReply address_eq.Post (λ κs r s. r)
+address_same_one_reply κs a r r' s s' p q = one_reply p q
 
-pub at_most_one_reply : (a b : Halves) (r r' : Bool) → r ≡ at_most a b → r' ≡ at_most a b → r ≡ r'
-at_most_one_reply a b r r' p q = one_reply p q
+pub width_same_one_reply : OneReply width_eq.Post (λ κs r s. r)
+width_same_one_reply κs a r r' s s' p q = one_reply p q
+
+pub refusal_same_one_reply : OneReply refusal_eq.Post (λ κs r s. r)
+refusal_same_one_reply κs a r r' s s' p q = one_reply p q
+
+-- `<` and `<=`, of `Halves` too: Orders says what they are there
+module _ (T : RattleType) (laws : Laws T) (o : order.Ghosts T.Denot) (d : Dict) (e : equality.Ghosts T.Denot) (d' : Dict) where
+  pub below_one_reply : OneReply (below.Post T laws o d e d') (λ κs r s. r)
+  below_one_reply κs a r r' s s' p q = one_reply p q
+
+  pub at_most_one_reply : OneReply (at_most.Post T laws o d e d') (λ κs r s. r)
+  at_most_one_reply κs a r r' s s' p q = one_reply p q
 
 -- halves::Halves: what `<` and `<=` are made of
 pub partial_cmp_one_reply : OneReply partial_cmp.Post (λ κs r s. r)

@@ -8,6 +8,7 @@ use Rattle.path.proofs.bundles.length.Reads as length
 use Rattle.path.proofs.bundles.value_end.Reads as value_end
 use Rattle.path.proofs.bundles.frame.Reads as frame
 use Rattle.path.proofs.certificates.certificate.Reads as certificate
+use Rattle.path.proofs.inherits.UninheritedPartialEq.eq.Reads as uninherited_eq
 use Rattle.path.proofs.inherits.inherit.Reads as inherit
 use Rattle.path.proofs.paths.check.Reads as check
 use Rattle.path.proofs.replies.fault_in.Reads as fault_in
@@ -34,6 +35,10 @@ certificate_one_reply κs a r r' s s' p q = one_reply p q
 -- inherits::inherit
 pub inherit_one_reply : OneReply {B = Inherited × List ℕ} inherit.Post (λ κs r s. (r, s.0.now))
 inherit_one_reply κs a r r' s s' p q = one_reply p q
+
+-- inherits::Uninherited: `==`
+pub uninherited_same_one_reply : OneReply uninherited_eq.Post (λ κs r s. r)
+uninherited_same_one_reply κs a r r' s s' p q = one_reply p q
 
 -- paths::check
 pub check_one_reply : OneReply {B = paths.Left} check.Post (λ κs r s. (r, s.1.0.now, s.1.1.0.now))

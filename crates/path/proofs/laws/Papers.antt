@@ -11,7 +11,7 @@ use Rattle.number.specs.declared.refusal.Refusal.TheVariants as refusal
 use Rattle.number.proofs.laws.Papers.{apart, halves_at}
 use Rattle.number.proofs.laws.Refusals.{answered, refused_back}
 use Rattle.values.proofs.laws.Papers.{replied, replied_back}
-use Rattle.path.specs.Papers.{paper, end_paper, framing_paper, resolved_paper, inherited_paper, meet_paper, found_paper, walked_paper}
+use Rattle.path.specs.Papers.{paper, end_paper, framing_paper, resolved_paper, inherited_paper, meet_paper, found_paper, walked_paper, lacked_paper}
 use Rattle.path.specs.declared.walks.Meet.{Meet}
 use Rattle.path.specs.declared.walks.Meet.TheVariants as meet
 use Rattle.path.specs.declared.walks.Walked.{Walked}
@@ -71,3 +71,6 @@ walked_apart = apart walked_paper back (λ x. again x.missing x.pairs)
     again : (f : Option Missing) (n : ℕ) → back (walked_paper (record { missing = f; pairs = n })) ≡ record { missing = f; pairs = n }
     again None n = refl
     again (Some m) n = refl
+
+pub lacked_apart : (x y : Option ℕ) → lacked_paper x ≡ lacked_paper y → x ≡ y
+lacked_apart = apart lacked_paper (λ l. answered (get_or l 0 0) None (λ r. Some (get_or l 1 0))) (elim [ Some extension ↦ refl | None ↦ refl ])

@@ -1,6 +1,5 @@
 -- One reply: two replies that a function's promise allows are equal, and so is what they leave in a lent buffer (`Rattle.number.proofs.laws.OneReply`). Theorems. Assumes nothing.
-use mathlib.Core.Path.{◌≡◌}
-use Prim.Native.Nat.{ℕ, min}
+use Rattle.table.proofs.rows.fewer.Reads as fewer
 use Rattle.number.proofs.laws.OneReply.{OneReply, one_reply}
 use Rattle.table.proofs.rows.count.Reads as count
 use Rattle.table.proofs.rows.space.Reads as space
@@ -13,13 +12,16 @@ use Rattle.table.proofs.rows.clear.Reads as clear
 use Rattle.table.proofs.spaces.kind.Reads as kind
 use Rattle.table.proofs.kinds.U64FromKind.from.Reads as number
 use Rattle.table.proofs.kinds.KindTryFromU64.try_from.Reads as told
+use Rattle.table.proofs.kinds.KindPartialEq.eq.Reads as kind_eq
+use Rattle.table.proofs.kinds.UnknownKindPartialEq.eq.Reads as unknown_eq
+use Rattle.table.proofs.rows.RowPartialEq.eq.Reads as row_eq
 use Rattle.table.proofs.laws.Papers.{kind_apart}
 use Rattle.table.proofs.spaces.width.Reads as width
 use Rattle.table.proofs.tables.is_table.Reads as is_table
 
--- the lesser of two counts: the library's `min`, whose promise is `r ≡ min a b`
-pub fewer_one_reply : (a b r r' : ℕ) → r ≡ min a b → r' ≡ min a b → r ≡ r'
-fewer_one_reply a b r r' p q = one_reply p q
+-- rows::fewer
+pub fewer_one_reply : OneReply fewer.Post (λ κs r s. r)
+fewer_one_reply κs a r r' s s' p q = one_reply p q
 
 -- rows::count
 pub count_one_reply : OneReply count.Post (λ κs r s. r)
@@ -60,6 +62,16 @@ number_one_reply κs a r r' s s' p q = one_reply p q
 -- kinds::Kind: `Kind::try_from`
 pub told_one_reply : OneReply told.Post (λ κs r s. r)
 told_one_reply κs a r r' s s' p q = one_reply p q
+
+-- rows::Row, kinds::Kind, kinds::UnknownKind: `==`
+pub row_same_one_reply : OneReply row_eq.Post (λ κs r s. r)
+row_same_one_reply κs a r r' s s' p q = one_reply p q
+
+pub kind_same_one_reply : OneReply kind_eq.Post (λ κs r s. r)
+kind_same_one_reply κs a r r' s s' p q = one_reply p q
+
+pub unknown_same_one_reply : OneReply unknown_eq.Post (λ κs r s. r)
+unknown_same_one_reply κs a r r' s s' p q = one_reply p q
 
 -- spaces::kind
 pub kind_one_reply : OneReply kind.Post (λ κs r s. r)

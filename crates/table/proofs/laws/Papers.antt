@@ -11,7 +11,7 @@ use Rattle.number.proofs.laws.Papers.{apart}
 use Rattle.std.specs.Prelude.{Option, Some, None, Result, Ok, Err}
 use Rattle.number.specs.Tests.{pick}
 use Rattle.table.specs.Rows.{row_paper}
-use Rattle.table.specs.Spaces.{mixed_kind, ip_kind, as_kind, kind_number, kind_paper, kind_told}
+use Rattle.table.specs.Spaces.{mixed_kind, ip_kind, as_kind, kind_number, kind_paper, kind_told, kind_told_paper}
 use Rattle.table.specs.declared.kinds.Kind.{Kind}
 use Rattle.table.specs.declared.kinds.Kind.TheVariants.{Ip, As}
 use Rattle.table.specs.declared.kinds.UnknownKind.{UnknownKind}
@@ -30,6 +30,13 @@ kind_back n = pick (eqb n ip_kind) (Some Ip) (pick (eqb n as_kind) (Some As) Non
 
 pub kind_apart : (x y : Option Kind) → kind_paper x ≡ kind_paper y → x ≡ y
 kind_apart = apart kind_paper kind_back (elim [ None ↦ refl | Some Ip ↦ refl | Some As ↦ refl ])
+
+-- the kind that a number is told as, or the number that is no kind's, of its numbers
+abbrev pub told_back : List ℕ → Result Kind UnknownKind
+told_back l = pick (eqb (get_or l 0 0) 0) (Ok (pick (eqb (get_or l 1 0) ip_kind) Ip As)) (Err (record { 0 = get_or l 1 0 }))
+
+pub kind_told_apart : (x y : Result Kind UnknownKind) → kind_told_paper x ≡ kind_told_paper y → x ≡ y
+kind_told_apart = apart kind_told_paper told_back (elim [ Ok Ip ↦ refl | Ok As ↦ refl | Err other ↦ refl ])
 
 -- a kind is told from its number
 pub kind_told_lem : (x : Kind) → kind_told (kind_number x) ≡ Ok x

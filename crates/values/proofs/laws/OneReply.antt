@@ -6,7 +6,7 @@
 use mathlib.Core.Path.{◌≡◌, refl, sym, ap, ◌∙◌}
 use mathlib.Core.List.{List}
 use Rattle.std.proofs.Common.{Fits, w64}
-use Prim.Native.Nat.{ℕ, ◌^◌, ◌<◌, ◌≤◌}
+use Prim.Native.Nat.{ℕ, ◌+◌, ◌^◌, ◌<◌, ◌≤◌}
 use native.Mathlib.Omega.{arith}
 use contract.Lifetimes.{Lfts}
 use lib.ListN.{length, drop, length-drop}
@@ -19,7 +19,7 @@ use Rattle.table.specs.Rows.{Row, cleared}
 use Rattle.der.specs.Parts.{Contents, is, isnt, Part, part, nopart}
 use Rattle.values.specs.Faults.{Fault}
 use Rattle.values.specs.Limits.{as_numbers, routing_domains}
-use Rattle.values.specs.Choices.{Choice, choice_at, listed_rows}
+use Rattle.values.specs.Choices.{Choice, choice_at, choice_rows, listed_rows}
 use Rattle.values.specs.Elements.{elements_of}
 use Rattle.values.specs.Blocks.{read_blocks}
 use Rattle.values.specs.Tables.{blocks_rows, identifiers_rows}
@@ -50,7 +50,8 @@ use Rattle.values.proofs.readings.read_as.Reads as read_as
 use Rattle.values.proofs.readings.step_both.Reads as step_both
 use Rattle.values.proofs.readings.read_both.Reads as read_both
 use Rattle.values.specs.Faults.{Read, Taken}
-use Rattle.std.specs.Prelude.{Ok, Err}
+use Rattle.std.specs.Prelude.{Ok, Err, IfErr}
+use Rattle.std.proofs.prelude.U32FromU8.from.Reads as wide
 use Rattle.table.specs.declared.rows.Row as code
 
 -- a promise, of a result whose numbers fit their types
@@ -111,6 +112,16 @@ counted_one : {X : Type 0} (rows : X → List Row) (m n : ℕ) (t : List ℕ) (o
 counted_one rows m n t (is x) r r' t₁ t₂ p q = rw (p.0, q.0, p.1, q.1) refl
 counted_one rows m n t (isnt f) r r' t₁ t₂ p q = rw (p.0, q.0, open_one t t₁ t₂ p.2 q.2) refl
 
+-- and how many rows are counted then, which a refusal leaves as they were
+count_one : {X : Type 0} (rows : X → List Row) (m n : ℕ) (t : List ℕ) (o : Contents X Fault) (r r' : Read (Unit {0})) (k k' : ℕ) (t₁ t₂ : List ℕ)
+    → CountedInto rows m n t o (counted k r) t₁ → IfErr r (λ _. k ≡ n) → CountedInto rows m n t o (counted k' r') t₂ → IfErr r' (λ _. k' ≡ n) → k ≡ k'
+count_one rows m n t o (Err f) (Err f') k k' t₁ t₂ p a q b = one_reply a b
+count_one rows m n t (is x) (Ok u) (Ok u') k k' t₁ t₂ p a q b = let e : ◌≡◌ {A = Read ℕ} (Ok k) (Ok k') = one_reply p.0 q.0 in cc
+count_one rows m n t (is x) (Ok u) (Err f) k k' t₁ t₂ p a q b = let z : ◌≡◌ {A = ℕ} 0 1 = cc in absurd (omega arith)
+count_one rows m n t (is x) (Err f) (Ok u) k k' t₁ t₂ p a q b = let z : ◌≡◌ {A = ℕ} 0 1 = cc in absurd (omega arith)
+count_one rows m n t (isnt g) (Ok u) r' k k' t₁ t₂ p a q b = let z : ◌≡◌ {A = ℕ} 0 1 = cc in absurd (omega arith)
+count_one rows m n t (isnt g) (Err f) (Ok u) k k' t₁ t₂ p a q b = let z : ◌≡◌ {A = ℕ} 0 1 = cc in absurd (omega arith)
+
 -- the same of one choice, which says its end too
 abbrev pub left_in : Taken ℕ → List ℕ → Taken ℕ × List ℕ
 left_in (Ok (n, end)) t = (Ok (n, end), t)
@@ -119,6 +130,20 @@ left_in (Err f) t = (Err f, cleared table_numbers t)
 chosen_one : (a : ℕ) (s : List ℕ) (n : ℕ) (t : List ℕ) (o : Part Choice Fault) (r r' : Taken ℕ) (t₁ t₂ : List ℕ) → ChosenInto a s n t o r t₁ → ChosenInto a s n t o r' t₂ → left_in r t₁ ≡ left_in r' t₂
 chosen_one a s n t (part c rest) r r' t₁ t₂ p q = rw (p.answer, q.answer, p.table, q.table, end_one s p.end q.end p.inside q.inside (sym p.over ∙ q.over)) refl
 chosen_one a s n t (nopart f) r r' t₁ t₂ p q = rw (p.0, q.0, open_one t t₁ t₂ p.2 q.2) refl
+
+choice_count_one : (a : ℕ) (s : List ℕ) (n : ℕ) (t : List ℕ) (o : Part Choice Fault) (r r' : Read ℕ) (k k' : ℕ) (t₁ t₂ : List ℕ)
+    → ChosenInto a s n t o (chosen k r) t₁ → IfErr r (λ _. k ≡ n) → ChosenInto a s n t o (chosen k' r') t₂ → IfErr r' (λ _. k' ≡ n) → k ≡ k'
+choice_count_one a s n t o (Err f) (Err f') k k' t₁ t₂ p x q y = one_reply x y
+choice_count_one a s n t (part c rest) (Ok e) (Ok e') k k' t₁ t₂ p x q y =
+    let i : ◌≡◌ {A = Taken ℕ} (Ok (k, e)) (Ok (n + length (choice_rows a c), p.end)) = p.answer in
+    let j : ◌≡◌ {A = Taken ℕ} (Ok (k', e')) (Ok (n + length (choice_rows a c), q.end)) = q.answer in
+    let v : ◌≡◌ {A = ℕ × ℕ} (k, e) (n + length (choice_rows a c), p.end) = cc in
+    let w : ◌≡◌ {A = ℕ × ℕ} (k', e') (n + length (choice_rows a c), q.end) = cc in
+    one_reply (ap (λ (z : ℕ × ℕ). z.0) v) (ap (λ (z : ℕ × ℕ). z.0) w)
+choice_count_one a s n t (part c rest) (Ok e) (Err f) k k' t₁ t₂ p x q y = let w = q.answer in let z : ◌≡◌ {A = ℕ} 0 1 = cc in absurd (omega arith)
+choice_count_one a s n t (part c rest) (Err f) (Ok e) k k' t₁ t₂ p x q y = let w = p.answer in let z : ◌≡◌ {A = ℕ} 0 1 = cc in absurd (omega arith)
+choice_count_one a s n t (nopart g) (Ok e) r' k k' t₁ t₂ p x q y = let w = p.0 in let z : ◌≡◌ {A = ℕ} 0 1 = cc in absurd (omega arith)
+choice_count_one a s n t (nopart g) (Err f) (Ok e) k k' t₁ t₂ p x q y = let w = q.0 in let z : ◌≡◌ {A = ℕ} 0 1 = cc in absurd (omega arith)
 
 -- addresses::element
 pub element_one_reply : OneReply (Typed (of_element.r).is.Ok element.Post) (λ κs r s. r)
@@ -131,7 +156,12 @@ blocks_read_one_reply κs a r r' s s' p q = counted_one blocks_rows (length a.0.
 -- choices::read, an exception: after a refusal the first 3,072 numbers of the table are open
 pub choices_read_one_reply : OneReply choices_read.Post (λ κs r s. left_in (chosen s.1.1.0.now.count r) s.1.1.0.now.table.now)
 choices_read_one_reply κs a r r' s s' p q =
-    chosen_one (space_number a.0) a.1.0.now a.1.1.0.now.count a.1.1.0.now.table.now (choice_at a.0 a.1.1.0.now.count a.1.0.now) (chosen s.1.1.0.now.count r) (chosen s'.1.1.0.now.count r') s.1.1.0.now.table.now s'.1.1.0.now.table.now p.1 q.1
+    chosen_one (space_number a.0) a.1.0.now a.1.1.0.now.count a.1.1.0.now.table.now (choice_at a.0 a.1.1.0.now.count a.1.0.now) (chosen s.1.1.0.now.count r) (chosen s'.1.1.0.now.count r') s.1.1.0.now.table.now s'.1.1.0.now.table.now p.1.0 q.1.0
+
+-- the rows that are counted after it are no exception
+pub choices_count_one_reply : OneReply choices_read.Post (λ κs r s. s.1.1.0.now.count)
+choices_count_one_reply κs a r r' s s' p q =
+    choice_count_one (space_number a.0) a.1.0.now a.1.1.0.now.count a.1.1.0.now.table.now (choice_at a.0 a.1.1.0.now.count a.1.0.now) r r' s.1.1.0.now.count s'.1.1.0.now.count s.1.1.0.now.table.now s'.1.1.0.now.table.now p.1.0 p.1.1 q.1.0 q.1.1
 
 -- elements::Space: `u64::from`
 pub number_one_reply : OneReply number.Post (λ κs r s. r)
@@ -140,7 +170,11 @@ number_one_reply κs a r r' s s' p q = one_reply p q
 -- elements::read, an exception: after a refusal the first 3,072 numbers of the table are open
 pub elements_read_one_reply : OneReply elements_read.Post (λ κs r s. left_of (counted s.1.1.0.now.count r) s.1.1.0.now.table.now)
 elements_read_one_reply κs a r r' s s' p q =
-    counted_one (listed_rows (space_number a.0)) (length a.1.0.now) a.1.1.0.now.count a.1.1.0.now.table.now (elements_of a.0 a.1.1.0.now.count a.1.0.now) (counted s.1.1.0.now.count r) (counted s'.1.1.0.now.count r') s.1.1.0.now.table.now s'.1.1.0.now.table.now p.1 q.1
+    counted_one (listed_rows (space_number a.0)) (length a.1.0.now) a.1.1.0.now.count a.1.1.0.now.table.now (elements_of a.0 a.1.1.0.now.count a.1.0.now) (counted s.1.1.0.now.count r) (counted s'.1.1.0.now.count r') s.1.1.0.now.table.now s'.1.1.0.now.table.now p.1.0 q.1.0
+
+pub elements_count_one_reply : OneReply elements_read.Post (λ κs r s. s.1.1.0.now.count)
+elements_count_one_reply κs a r r' s s' p q =
+    count_one (listed_rows (space_number a.0)) (length a.1.0.now) a.1.1.0.now.count a.1.1.0.now.table.now (elements_of a.0 a.1.1.0.now.count a.1.0.now) r r' s.1.1.0.now.count s'.1.1.0.now.count s.1.1.0.now.table.now s'.1.1.0.now.table.now p.1.0 p.1.1 q.1.0 q.1.1
 
 -- identifiers::read, an exception: after a refusal the first 3,072 numbers of the table are open
 pub identifiers_read_one_reply : OneReply identifiers_read.Post (λ κs r s. left_of r s.1.1.0.now)
@@ -186,9 +220,9 @@ rdi_element_one_reply = id_element_one_reply routing_domains rdi_fits
 pub is_brief_one_reply : OneReply is_brief.Post (λ κs r s. r)
 is_brief_one_reply κs a r r' s s' p q = one_reply p q
 
--- an octet as a wider number: the library's `From`, whose promise is `r ≡ x`
-pub wide_one_reply : (x r r' : ℕ) → r ≡ x → r' ≡ x → r ≡ r'
-wide_one_reply x r r' p q = one_reply p q
+-- an octet as a wider number: the library's `u32::from`, whose own promise this is
+pub wide_one_reply : OneReply wide.Post (λ κs r s. r)
+wide_one_reply κs a r r' s s' p q = one_reply p q
 
 -- parts::has_octets
 pub has_octets_one_reply : OneReply has_octets.Post (λ κs r s. r)

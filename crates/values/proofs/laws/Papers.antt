@@ -5,12 +5,16 @@
 use mathlib.Core.Path.{◌≡◌, refl}
 use mathlib.Core.List.{List}
 use Prim.Native.Nat.{ℕ, ◌+◌}
-use lib.ListN.{get_or, drop}
+use lib.ListN.{get_or, drop, length}
+use lib.Dec.{eqb}
+use Rattle.number.specs.Tests.{pick}
 use Rattle.number.specs.declared.refusal.Refusal.{Refusal}
 use Rattle.number.proofs.laws.Papers.{apart, halves_at}
 use Rattle.number.proofs.laws.Refusals.{answered, refused_back}
 use Rattle.table.proofs.laws.Papers.{row_back}
-use Rattle.values.specs.Papers.{refused, paper, found_paper, bits_at_paper, bounds_paper, bounds_at_paper, ranged_paper, listed_paper, integer_at_paper, pair_paper, pair_at_paper, space_of_paper, space_at_paper, family_paper, chosen_paper, counted_paper}
+use Rattle.values.specs.Papers.{refused, paper, found_paper, bits_at_paper, bounds_paper, bounds_at_paper, ranged_paper, listed_paper, integer_at_paper, pair_paper, pair_at_paper, space_of_paper, space_at_paper, family_paper, chosen_paper, counted_paper, pushed_paper, admitted_paper, brief_bits_paper, brief_row_paper, brief_number_paper, brief_pair_paper}
+use Rattle.values.specs.declared.brief_addresses.Brief.{Brief}
+use Rattle.values.specs.declared.brief_addresses.Span.{Span}
 use Rattle.values.specs.declared.readings.Refused.{Refused}
 use Rattle.values.specs.declared.addresses.Start as begun
 use Rattle.table.specs.declared.rows.Row as code
@@ -83,3 +87,27 @@ chosen_apart = apart chosen_paper (placed (λ l. Ok (get_or l 1 0, get_or l 2 0)
 
 pub counted_apart : (x y : Read ℕ) → counted_paper x ≡ counted_paper y → x ≡ y
 counted_apart = apart counted_paper (placed (λ l. Ok (get_or l 1 0)) Err) (elim [ Ok n ↦ refl | Err f ↦ refused_back _ (λ r. Err (at f.place r)) f.refusal ])
+
+-- THE STEPS OF THE CODE
+
+pub pushed_apart : (x y : Result (Unit {0}) Refusal) → pushed_paper x ≡ pushed_paper y → x ≡ y
+pushed_apart = apart pushed_paper (λ l. answered (get_or l 0 0) (Ok tt) Err) (elim [ Ok u ↦ refl | Err r ↦ refused_back _ Err r ])
+
+pub admitted_apart : (x y : Result (Unit {0}) Refused) → admitted_paper x ≡ admitted_paper y → x ≡ y
+admitted_apart = apart admitted_paper (replied (λ n k. Ok tt) Err) (elim [ Ok u ↦ refl | Err f ↦ replied_back (λ n k. Ok tt) Err f ])
+
+-- nothing, or what the numbers say
+abbrev taken : {A : Type 0} → (List ℕ → A) → List ℕ → Option A
+taken what l = pick (eqb (length l) 1) None (Some (what l))
+
+pub brief_bits_apart : (x y : Option (Brief × ℕ)) → brief_bits_paper x ≡ brief_bits_paper y → x ≡ y
+brief_bits_apart = apart brief_bits_paper (taken (λ l. (record { count = get_or l 2 0; bits = get_or l 3 0 }, get_or l 1 0))) (elim [ Some (b, end) ↦ refl | None ↦ refl ])
+
+pub brief_row_apart : (x y : Option (Span × ℕ)) → brief_row_paper x ≡ brief_row_paper y → x ≡ y
+brief_row_apart = apart brief_row_paper (taken (λ l. (record { low = halves_at 2 l; high = halves_at 4 l }, get_or l 1 0))) (elim [ Some (s, end) ↦ refl | None ↦ refl ])
+
+pub brief_number_apart : (x y : Option (ℕ × ℕ)) → brief_number_paper x ≡ brief_number_paper y → x ≡ y
+brief_number_apart = apart brief_number_paper (taken (λ l. (get_or l 2 0, get_or l 1 0))) (elim [ Some (x, end) ↦ refl | None ↦ refl ])
+
+pub brief_pair_apart : (x y : Option ((ℕ × ℕ) × ℕ)) → brief_pair_paper x ≡ brief_pair_paper y → x ≡ y
+brief_pair_apart = apart brief_pair_paper (taken (λ l. ((get_or l 2 0, get_or l 3 0), get_or l 1 0))) (elim [ Some ((min, max), end) ↦ refl | None ↦ refl ])

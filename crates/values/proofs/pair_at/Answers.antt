@@ -18,7 +18,7 @@ slice_bounds-pair_of-end g c = search (tag_inside, rules)
 
 pub returns-in_err-pair-clause-inside : goal.returns-in_err-pair-clause-inside
 returns-in_err-pair-clause-inside g c =
-    let (f, p, q) = shifted c.in_ok-k.k c.pair_of.result c.in_err-pair.ensures in
+    let (f, p, q) = shifted c.in_ok-k.k c.pair_of.result (c.in_err-pair.ensures (search rules)) in
     rw (handed _ c.from_residual-in_err-pair.ensures.1, q)
     (tag_place SEQUENCE c.args.s.now c.open.ensures c.in_ok-k.k c.in_ok-k.end c.in_ok-k.was f.place (rw p at c.pair_of.ensures.inside))
 

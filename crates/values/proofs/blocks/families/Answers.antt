@@ -36,20 +36,20 @@ slice_bounds-family_of-end c =
     let o : c.open.result ≡ Ok (c.in-Ok.opening.0, c.in-Ok.opening.1) = c.in-Ok.is in
     search (tag_inside, rules)
 
-pub after-requires : goal.after-requires
-after-requires c =
-    let o : c.open.result ≡ Ok (c.in-Ok.opening.0, c.in-Ok.opening.1) = c.in-Ok.is in
-    all_fit _ c.family_of.result
-    (λ f e.
-    let u : family c.family_of.new.rows.count c.family_of.result ≡ Err f = ap (family c.family_of.new.rows.count) e in
-    search (place_fits, rules))
-
 pub returns-in_err-space : goal.returns-in_err-space
 returns-in_err-space c =
     let o : c.open.result ≡ Ok (c.in-Ok.opening.0, c.in-Ok.opening.1) = c.in-Ok.is in
-    let p = shifted (length c.args.s.now - length c.loop-rest.rest.now + c.in-Ok.opening.0) c.family_of.result c.in_err-space.ensures in
+    let q = all_fit _ c.family_of.result (λ f e. let u : family c.family_of.new.rows.count c.family_of.result ≡ Err f = ap (family c.family_of.new.rows.count) e in search (place_fits, rules)) in
+    let p = shifted (length c.args.s.now - length c.loop-rest.rest.now + c.in-Ok.opening.0) c.family_of.result (c.in_err-space.ensures q) in
     let e : family c.family_of.new.rows.count c.family_of.result ≡ Err p.0 = ap (family c.family_of.new.rows.count) p.1 in
     rw (handed _ c.from_residual.ensures.1, p.2) (counted_at _ _ _ _ _ _ _ _ (gather_isnt _ _ _ _ _ _ c.loop-rest.invariant.1 c.loop-rest-test.true _ c.open.ensures _ _ o _ _ c.family_of.ensures.rows _ e) (search rules))
+
+pub overflow_add-least : goal.overflow_add-least
+overflow_add-least c =
+    let o : c.open.result ≡ Ok (c.in-Ok.opening.0, c.in-Ok.opening.1) = c.in-Ok.is in
+    let q = all_fit _ c.family_of.result (λ f e. let u : family c.family_of.new.rows.count c.family_of.result ≡ Err f = ap (family c.family_of.new.rows.count) e in search (place_fits, rules)) in
+    let e : family c.family_of.new.rows.count c.family_of.result ≡ Ok (c.in_ok-space.space, c.family_of.new.rows.count) = ap (family c.family_of.new.rows.count) (kept (length c.args.s.now - length c.loop-rest.rest.now + c.in-Ok.opening.0) c.family_of.result (c.in_ok-space.ensures q)) in
+    search rules
 
 pub slice_bounds-rest-count : goal.slice_bounds-rest-count
 slice_bounds-rest-count c =
@@ -69,7 +69,8 @@ loop-rest-smaller c =
 pub loop-rest-preserved : goal.loop-rest-preserved
 loop-rest-preserved c =
     let o : c.open.result ≡ Ok (c.in-Ok.opening.0, c.in-Ok.opening.1) = c.in-Ok.is in
-    let e : family c.family_of.new.rows.count c.family_of.result ≡ Ok (c.in_ok-space.space, c.family_of.new.rows.count) = ap (family c.family_of.new.rows.count) (kept (length c.args.s.now - length c.loop-rest.rest.now + c.in-Ok.opening.0) c.family_of.result c.in_ok-space.ensures) in
+    let q = all_fit _ c.family_of.result (λ f e. let u : family c.family_of.new.rows.count c.family_of.result ≡ Err f = ap (family c.family_of.new.rows.count) e in search (place_fits, rules)) in
+    let e : family c.family_of.new.rows.count c.family_of.result ≡ Ok (c.in_ok-space.space, c.family_of.new.rows.count) = ap (family c.family_of.new.rows.count) (kept (length c.args.s.now - length c.loop-rest.rest.now + c.in-Ok.opening.0) c.family_of.result (c.in_ok-space.ensures q)) in
     (search rules, search (gather_turn, rules))
 
 pub returns : goal.returns

@@ -12,16 +12,16 @@ returns-in_err-space-clause-rows c = rw (handed _ c.from_residual.ensures.1) (se
 
 pub returns-in_err-j-clause-rows : goal.returns-in_err-j-clause-rows
 returns-in_err-j-clause-rows c =
-    let p = shifted c.in_ok-space.k c.read.result c.in_err-j.ensures in
+    let p = shifted c.in_ok-space.k c.read.result (c.in_err-j.ensures (search rules)) in
     let e : chosen c.read.new.rows.count c.read.result ≡ Err p.0 = ap (chosen c.read.new.rows.count) p.1 in
     rw (handed _ c.from_residual-in_err-j.ensures.1, p.2) (search (family_choice, rules))
 
 pub returns-then-j-rest-clause-rows : goal.returns-then-j-rest-clause-rows
 returns-then-j-rest-clause-rows c =
-    let e : chosen c.read.new.rows.count c.read.result ≡ Ok (c.read.new.rows.count, c.in_ok-j.j) = ap (chosen c.read.new.rows.count) (kept c.in_ok-space.k c.read.result c.in_ok-j.ensures) in
+    let e : chosen c.read.new.rows.count c.read.result ≡ Ok (c.read.new.rows.count, c.in_ok-j.j) = ap (chosen c.read.new.rows.count) (kept c.in_ok-space.k c.read.result (c.in_ok-j.ensures (search rules))) in
     rw c.at.ensures (search (family_over, rules))
 
 pub returns-clause-rows : goal.returns-clause-rows
 returns-clause-rows c =
-    let e : chosen c.read.new.rows.count c.read.result ≡ Ok (c.read.new.rows.count, c.in_ok-j.j) = ap (chosen c.read.new.rows.count) (kept c.in_ok-space.k c.read.result c.in_ok-j.ensures) in
+    let e : chosen c.read.new.rows.count c.read.result ≡ Ok (c.read.new.rows.count, c.in_ok-j.j) = ap (chosen c.read.new.rows.count) (kept c.in_ok-space.k c.read.result (c.in_ok-j.ensures (search rules))) in
     search (family_all, rules)

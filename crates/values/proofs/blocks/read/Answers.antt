@@ -21,16 +21,16 @@ slice_bounds-families-end c = search (tag_inside, rules)
 
 pub returns-in_err-n : goal.returns-in_err-n
 returns-in_err-n c =
-    let p = shifted c.in_ok-k.k c.families.result c.in_err-n.ensures in
+    let p = shifted c.in_ok-k.k c.families.result (c.in_err-n.ensures (search rules)) in
     let e : c.families.result ≡ Err p.0 = p.1 in
     rw (handed _ c.from_residual-in_err-n.ensures.1, p.2) (search (blocks_isnt, rules))
 
 pub returns-then-end-value : goal.returns-then-end-value
 returns-then-end-value c =
-    let e : c.families.result ≡ Ok _ = kept c.in_ok-k.k c.families.result c.in_ok-n.ensures in
+    let e : c.families.result ≡ Ok _ = kept c.in_ok-k.k c.families.result (c.in_ok-n.ensures (search rules)) in
     rw c.at.ensures (search (blocks_over, rules))
 
 pub returns : goal.returns
 returns c =
-    let e : c.families.result ≡ Ok _ = kept c.in_ok-k.k c.families.result c.in_ok-n.ensures in
+    let e : c.families.result ≡ Ok _ = kept c.in_ok-k.k c.families.result (c.in_ok-n.ensures (search rules)) in
     search (blocks_all, rules)

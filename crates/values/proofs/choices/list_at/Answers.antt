@@ -23,16 +23,16 @@ slice_bounds-read-end c = search (tag_inside, rules)
 
 pub returns-in_err-after-clause-rows : goal.returns-in_err-after-clause-rows
 returns-in_err-after-clause-rows c =
-    let p = shifted c.in_ok-k.k c.read.result c.in_err-after.ensures in
+    let p = shifted c.in_ok-k.k c.read.result (c.in_err-after.ensures (search rules)) in
     let e : counted c.read.new.rows.count c.read.result ≡ Err p.0 = ap (counted c.read.new.rows.count) p.1 in
     rw (handed _ c.from_residual-in_err-after.ensures.1, p.2) (search (list_isnt, rules))
 
 pub returns-then-rows-before-clause-rows : goal.returns-then-rows-before-clause-rows
 returns-then-rows-before-clause-rows c =
-    let e : counted c.read.new.rows.count c.read.result ≡ Ok c.read.new.rows.count = ap (counted c.read.new.rows.count) (kept c.in_ok-k.k c.read.result c.in_ok-after.ensures) in
+    let e : counted c.read.new.rows.count c.read.result ≡ Ok c.read.new.rows.count = ap (counted c.read.new.rows.count) (kept c.in_ok-k.k c.read.result (c.in_ok-after.ensures (search rules))) in
     rw c.from.ensures (search (list_none, rules))
 
 pub returns-clause-rows : goal.returns-clause-rows
 returns-clause-rows c =
-    let e : counted c.read.new.rows.count c.read.result ≡ Ok c.read.new.rows.count = ap (counted c.read.new.rows.count) (kept c.in_ok-k.k c.read.result c.in_ok-after.ensures) in
+    let e : counted c.read.new.rows.count c.read.result ≡ Ok c.read.new.rows.count = ap (counted c.read.new.rows.count) (kept c.in_ok-k.k c.read.result (c.in_ok-after.ensures (search rules))) in
     search (list_some, rules)

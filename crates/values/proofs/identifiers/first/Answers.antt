@@ -15,7 +15,7 @@ returns-in_err-end-clause-rows c =
 pub returns-then-end-s-clause-rows : goal.returns-then-end-s-clause-rows
 returns-then-end-s-clause-rows c =
     let e : chosen c.member.new.rows.count c.member.result ≡ Ok (c.member.new.rows.count, c.in_ok-end.end) = ap (chosen c.member.new.rows.count) c.in_ok-end.was in
-    rw (c.after.ensures, counted_after) (search (first_after, rules))
+    rw (c.after.ensures (search rules), counted_after) (search (first_after, rules))
 
 pub returns-clause-rows : goal.returns-clause-rows
 returns-clause-rows c =

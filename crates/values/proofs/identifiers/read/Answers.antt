@@ -26,16 +26,16 @@ slice_bounds-members-end c = search (tag_inside, rules)
 
 pub returns-in_err-after : goal.returns-in_err-after
 returns-in_err-after c =
-    let p = shifted c.in_ok-k.k c.members.result c.in_err-after.ensures in
+    let p = shifted c.in_ok-k.k c.members.result (c.in_err-after.ensures (search rules)) in
     let e : counted c.members.new.rows.count c.members.result ≡ Err p.0 = ap (counted c.members.new.rows.count) p.1 in
     rw (handed _ c.from_residual-in_err-after.ensures.1, p.2) (search (ids_isnt, rules))
 
 pub returns-then-end-value : goal.returns-then-end-value
 returns-then-end-value c =
-    let e : counted c.members.new.rows.count c.members.result ≡ Ok c.members.new.rows.count = ap (counted c.members.new.rows.count) (kept c.in_ok-k.k c.members.result c.in_ok-after.ensures) in
+    let e : counted c.members.new.rows.count c.members.result ≡ Ok c.members.new.rows.count = ap (counted c.members.new.rows.count) (kept c.in_ok-k.k c.members.result (c.in_ok-after.ensures (search rules))) in
     rw c.at.ensures (search (ids_over, rules))
 
 pub returns : goal.returns
 returns c =
-    let e : counted c.members.new.rows.count c.members.result ≡ Ok c.members.new.rows.count = ap (counted c.members.new.rows.count) (kept c.in_ok-k.k c.members.result c.in_ok-after.ensures) in
+    let e : counted c.members.new.rows.count c.members.result ≡ Ok c.members.new.rows.count = ap (counted c.members.new.rows.count) (kept c.in_ok-k.k c.members.result (c.in_ok-after.ensures (search rules))) in
     search (ids_all, rules)
